@@ -1,0 +1,5 @@
+pub mod Tests
+pub mod Parts
+pub mod Numbers
+pub mod Equal
+pub mod Search

@@ -1,0 +1,46 @@
+-- Laws of `specs/Search.antt`: what a loop over the numbers below n has to show. Assumes nothing.
+use mathlib.Core.Path.{_≡_, refl, sym, ap, _∙_}
+use mathlib.Core.Bool.{Bool, true, false, _&&_, _||_, false≢true, true≢false, and-false, or-true}
+use Prim.Native.Nat.{ℕ, zero, suc, _≤_, _<_, zero-le, suc-le-suc}
+use native.Mathlib.Nat.{le-of-suc-le-suc, not-suc-le-zero}
+use Rattle.octets.specs.Search.{every, some, first}
+use Rattle.octets.proofs.Tests.{and-left, and-right}
+
+pub every-true : (p : ℕ → Bool) (n : ℕ) → ((i : ℕ) → i < n → p i ≡ true) → every p n ≡ true
+unfolding every
+every-true p zero h = refl
+every-true p (suc n) h = rw (h zero (suc-le-suc zero-le)) (every-true (λ i. p (suc i)) n (λ i l. h (suc i) (suc-le-suc l)))
+
+pub every-false : (p : ℕ → Bool) (n i : ℕ) → i < n → p i ≡ false → every p n ≡ false
+unfolding every
+every-false p zero i l e = absurd (not-suc-le-zero l)
+every-false p (suc n) zero l e = rw e
+every-false p (suc n) (suc i) l e = rw (every-false (λ j. p (suc j)) n i (le-of-suc-le-suc l) e) (and-false (p zero))
+
+pub every-at : (p : ℕ → Bool) (n i : ℕ) → every p n ≡ true → i < n → p i ≡ true
+unfolding every
+every-at p zero i h l = absurd (not-suc-le-zero l)
+every-at p (suc n) zero h l = and-left (p zero) (every (λ j. p (suc j)) n) h
+every-at p (suc n) (suc i) h l = every-at (λ j. p (suc j)) n i (and-right (p zero) (every (λ j. p (suc j)) n) h) (le-of-suc-le-suc l)
+
+pub some-false : (p : ℕ → Bool) (n : ℕ) → ((i : ℕ) → i < n → p i ≡ false) → some p n ≡ false
+unfolding some
+some-false p zero h = refl
+some-false p (suc n) h = rw (h zero (suc-le-suc zero-le)) (some-false (λ i. p (suc i)) n (λ i l. h (suc i) (suc-le-suc l)))
+
+pub some-true : (p : ℕ → Bool) (n i : ℕ) → i < n → p i ≡ true → some p n ≡ true
+unfolding some
+some-true p zero i l e = absurd (not-suc-le-zero l)
+some-true p (suc n) zero l e = rw e
+some-true p (suc n) (suc i) l e = rw (some-true (λ j. p (suc j)) n i (le-of-suc-le-suc l) e) (or-true (p zero))
+
+pub first-at : (p : ℕ → Bool) (n i : ℕ) → i < n → ((j : ℕ) → j < i → p j ≡ false) → p i ≡ true → first p n ≡ i
+unfolding first
+first-at p zero i l h e = absurd (not-suc-le-zero l)
+first-at p (suc n) zero l h e = rw (e, first)
+first-at p (suc n) (suc i) l h e = rw (h zero (suc-le-suc zero-le), first) (ap suc (first-at (λ j. p (suc j)) n i (le-of-suc-le-suc l) (λ j k. h (suc j) (suc-le-suc k)) e))
+
+pub first-none : (p : ℕ → Bool) (n : ℕ) → ((j : ℕ) → j < n → p j ≡ false) → first p n ≡ n
+unfolding first
+first-none p zero h = refl
+first-none p (suc n) h = rw (h zero (suc-le-suc zero-le), first) (ap suc (first-none (λ j. p (suc j)) n (λ j k. h (suc j) (suc-le-suc k))))
