@@ -61,7 +61,7 @@ part-put-below b at vs at' n h l =
     let q : length (part b at' n) ≡ n = part-length b at' n (omega arith) in
     ext-getD 0 (part (put b at vs) at' n) (part b at' n) (p ∙ sym q)
     (λ i k. let m : i < n = omega arith in
-      part-at (put b at vs) at' n i m ∙ put-before b at vs (at' + i) (omega arith) (omega arith) ∙ sym (part-at b at' n i m))
+    part-at (put b at vs) at' n i m ∙ put-before b at vs (at' + i) (omega arith) (omega arith) ∙ sym (part-at b at' n i m))
 
 pub part-put-above : (b : List ℕ) (at : ℕ) (vs : List ℕ) (at' n : ℕ) → at + length vs ≤ at' → at' + n ≤ length b → part (put b at vs) at' n ≡ part b at' n
 part-put-above b at vs at' n h l =
@@ -70,7 +70,7 @@ part-put-above b at vs at' n h l =
     let q : length (part b at' n) ≡ n = part-length b at' n (omega arith) in
     ext-getD 0 (part (put b at vs) at' n) (part b at' n) (p ∙ sym q)
     (λ i k. let m : i < n = omega arith in
-      part-at (put b at vs) at' n i m ∙ put-after b at vs (at' + i) (omega arith) (omega arith) ∙ sym (part-at b at' n i m))
+    part-at (put b at vs) at' n i m ∙ put-after b at vs (at' + i) (omega arith) (omega arith) ∙ sym (part-at b at' n i m))
 
 -- a run of stores
 pub put-none : (b : List ℕ) (at : ℕ) → put b at [] ≡ b
@@ -128,7 +128,7 @@ part-part b at n i m h l =
     let q : length (part b (at + i) m) ≡ m = part-length b (at + i) m (omega arith) in
     ext-getD 0 (part (part b at n) i m) (part b (at + i) m) (p ∙ sym q)
     (λ j k. let jm : j < m = omega arith in
-      part-at (part b at n) i m j jm ∙ part-at b at n (i + j) (omega arith) ∙ ap (λ (x : ℕ). getD b x 0) (omega arith) ∙ sym (part-at b (at + i) m j jm))
+    part-at (part b at n) i m j jm ∙ part-at b at n (i + j) (omega arith) ∙ ap (λ (x : ℕ). getD b x 0) (omega arith) ∙ sym (part-at b (at + i) m j jm))
 
 pub put-whole : (b : List ℕ) (at n : ℕ) → at + n ≤ length b → put b at (part b at n) ≡ b
 unfolding put part
@@ -148,24 +148,24 @@ put-nested b at n i vs h l =
     let inside : (j : ℕ) → j < n → getD (put b at (put (part b at n) i vs)) (at + j) 0 ≡ getD (put (part b at n) i vs) j 0 = λ j k. put-in b at (put (part b at n) i vs) j (omega arith) (omega arith) in
     ext-getD 0 (put b at (put (part b at n) i vs)) (put b (at + i) vs) (p ∙ sym q)
     (λ j k. ⊎-elim
-      (λ (lo : j < at). put-before b at (put (part b at n) i vs) j (omega arith) lo ∙ sym (put-before b (at + i) vs j (omega arith) (omega arith)))
-      (λ (ge : at ≤ j).
-        let o : ℕ = j - at in
-        let je : j ≡ at + o = omega arith in
-        rw je (⊎-elim
-          (λ (in-n : o < n). inside o in-n ∙ ⊎-elim
-            (λ (lo : o < i). put-before (part b at n) i vs o (omega arith) lo ∙ part-at b at n o in-n ∙ sym (put-before b (at + i) vs (at + o) (omega arith) (omega arith)))
-            (λ (ge2 : i ≤ o). ⊎-elim
-              (λ (mid : o < i + length vs).
-                let r : ℕ = o - i in
-                let oe : o ≡ i + r = omega arith in
-                rw oe (put-in (part b at n) i vs r (omega arith) (omega arith) ∙ sym (put-in b (at + i) vs r (omega arith) (omega arith)) ∙ ap (λ (z : ℕ). getD (put b (at + i) vs) z 0) (omega arith)))
-              (λ (hi : i + length vs ≤ o). put-after (part b at n) i vs o (omega arith) hi ∙ part-at b at n o in-n ∙ sym (put-after b (at + i) vs (at + o) (omega arith) (omega arith)))
-              (below-or o (i + length vs)))
-            (below-or o i))
-          (λ (out : n ≤ o). put-after b at (put (part b at n) i vs) (at + o) (omega arith) (omega arith) ∙ sym (put-after b (at + i) vs (at + o) (omega arith) (omega arith)))
-          (below-or o n)))
-      (below-or j at))
+    (λ (lo : j < at). put-before b at (put (part b at n) i vs) j (omega arith) lo ∙ sym (put-before b (at + i) vs j (omega arith) (omega arith)))
+    (λ (ge : at ≤ j).
+    let o : ℕ = j - at in
+    let je : j ≡ at + o = omega arith in
+    rw je (⊎-elim
+    (λ (in-n : o < n). inside o in-n ∙ ⊎-elim
+    (λ (lo : o < i). put-before (part b at n) i vs o (omega arith) lo ∙ part-at b at n o in-n ∙ sym (put-before b (at + i) vs (at + o) (omega arith) (omega arith)))
+    (λ (ge2 : i ≤ o). ⊎-elim
+    (λ (mid : o < i + length vs).
+    let r : ℕ = o - i in
+    let oe : o ≡ i + r = omega arith in
+    rw oe (put-in (part b at n) i vs r (omega arith) (omega arith) ∙ sym (put-in b (at + i) vs r (omega arith) (omega arith)) ∙ ap (λ (z : ℕ). getD (put b (at + i) vs) z 0) (omega arith)))
+    (λ (hi : i + length vs ≤ o). put-after (part b at n) i vs o (omega arith) hi ∙ part-at b at n o in-n ∙ sym (put-after b (at + i) vs (at + o) (omega arith) (omega arith)))
+    (below-or o (i + length vs)))
+    (below-or o i))
+    (λ (out : n ≤ o). put-after b at (put (part b at n) i vs) (at + o) (omega arith) (omega arith) ∙ sym (put-after b (at + i) vs (at + o) (omega arith) (omega arith)))
+    (below-or o n)))
+    (below-or j at))
 
 -- what is put in last stays
 pub put-put : (b : List ℕ) (at : ℕ) (s r : List ℕ) → at + length s ≤ length b → length s ≡ length r → put (put b at s) at r ≡ put b at r
@@ -174,10 +174,10 @@ put-put b at s r h e =
     let la : length (take at b) ≡ at = length-take-le at b (omega arith) in
     ap (λ (l : List ℕ). l ++ (r ++ drop (at + length r) (take at b ++ (s ++ drop (at + length s) b)))) (take-at (take at b) (s ++ drop (at + length s) b) at la)
     ∙ ap (λ (l : List ℕ). take at b ++ (r ++ l))
-      (sym (drop-drop (length r) at (take at b ++ (s ++ drop (at + length s) b)))
-      ∙ ap (drop (length r)) (drop-at (take at b) (s ++ drop (at + length s) b) at la)
-      ∙ drop-at s (drop (at + length s) b) (length r) e
-      ∙ ap (λ (m : ℕ). drop (at + m) b) e)
+    (sym (drop-drop (length r) at (take at b ++ (s ++ drop (at + length s) b)))
+    ∙ ap (drop (length r)) (drop-at (take at b) (s ++ drop (at + length s) b) at la)
+    ∙ drop-at s (drop (at + length s) b) (length r) e
+    ∙ ap (λ (m : ℕ). drop (at + m) b) e)
 
 -- a change inside what was put in
 pub put-inside : (b : List ℕ) (at : ℕ) (s : List ℕ) (i : ℕ) (vs : List ℕ) → at + length s ≤ length b → i + length vs ≤ length s → put (put b at s) (at + i) vs ≡ put b at (put s i vs)
@@ -217,9 +217,9 @@ put-append b at xs ys h =
     ap (λ (l : List ℕ). take (at + length xs) l ++ (ys ++ drop (at + length xs + length ys) l)) e
     ∙ ap (λ (l : List ℕ). l ++ (ys ++ drop (at + length xs + length ys) ((take at b ++ xs) ++ r))) (take-at (take at b ++ xs) r (at + length xs) lp)
     ∙ ap (λ (l : List ℕ). (take at b ++ xs) ++ (ys ++ l))
-      (sym (drop-drop (length ys) (at + length xs) ((take at b ++ xs) ++ r))
-      ∙ ap (drop (length ys)) (drop-at (take at b ++ xs) r (at + length xs) lp)
-      ∙ drop-drop (length ys) (at + length xs) b)
+    (sym (drop-drop (length ys) (at + length xs) ((take at b ++ xs) ++ r))
+    ∙ ap (drop (length ys)) (drop-at (take at b ++ xs) r (at + length xs) lp)
+    ∙ drop-drop (length ys) (at + length xs) b)
     ∙ append-assoc (take at b) xs (ys ++ drop (at + length xs + length ys) b)
     ∙ ap (λ (l : List ℕ). take at b ++ l) (sym (append-assoc xs ys (drop (at + length xs + length ys) b)))
     ∙ ap (λ (k : ℕ). take at b ++ ((xs ++ ys) ++ drop k b)) (sym (ap (λ (k : ℕ). at + k) (length-append xs ys) ∙ n))
