@@ -1,0 +1,29 @@
+//! The proved pin store for TLS gateways, in safe Rust.
+//!
+//! The work is done by `libtack.a`, whose every function is proved to meet its contract. This crate adds the field's names,
+//! lifetimes and error types, and nothing of its own: each function makes one call of the C interface.
+//!
+//! * [`extension`]: the TACK extension (May 2012 draft) read and written.
+//! * [`is_host_name`]: whether the store takes a name.
+//! * [`raw`]: the C interface on slices, with the papers' own numbers.
+//!
+//! Every function answers for every input. An error carries the [`number`](extension::WriteError::number) and the
+//! [`alert`](extension::WriteError::alert) that the gateway's papers give it, and leaves all lent memory as it was.
+
+#![warn(missing_docs)]
+#![deny(unsafe_op_in_unsafe_fn)]
+
+pub mod extension;
+pub mod raw;
+
+/// Whether the bytes are a host name that the store takes: labels of 1 to 63 bytes of a-z, 0-9 and hyphen, no hyphen first or
+/// last, joined by dots, 253 bytes at most.
+///
+/// ```
+/// assert!(tack::is_host_name(b"desk.example"));
+/// assert!(!tack::is_host_name(b"Desk.example"));
+/// assert!(!tack::is_host_name(b"desk.example."));
+/// ```
+pub fn is_host_name(name: &[u8]) -> bool {
+    raw::name_well_formed(name)
+}

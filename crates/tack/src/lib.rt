@@ -1,0 +1,4 @@
+// The C interface: include/tack.h declares these functions, and `rt staticlib tack` builds libtack.a. Each passes on to a
+// proved function, and its contract is that function's with the numbers of document 01.
+pub mod extension;
+pub mod name;

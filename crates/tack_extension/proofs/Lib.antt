@@ -1,0 +1,5 @@
+pub mod Steps
+pub mod Places
+pub mod BreakSignatures
+pub mod Writing
+pub mod RoundTrip

@@ -1,0 +1,109 @@
+-- Reading and writing are each other's inverse: what is accepted is exactly what the writer writes. Assumes nothing.
+use mathlib.Core.Path.{_≡_, refl, sym, ap, _∙_}
+use mathlib.Core.Bool.{true}
+use mathlib.Core.List.{List, [], _∷_, _++_}
+use mathlib.Core.Logic.{_↔_}
+use mathlib.Core.Option.{none, some}
+use Prim.Native.Nat.{ℕ, zero, suc, _+_, _<_}
+use native.Mathlib.Omega.{arith}
+use lib.Dec.{leb}
+use lib.ListN.{length, take, drop, getD}
+use lib.Seq.{getD-append-add}
+use Rattle.octets.specs.Octets.{number, numberAfter, bigEndian}
+use Rattle.octets.proofs.Tests.{and-left, and-right, and-both}
+use Rattle.octets.proofs.Numbers.{Bytes, number-bigEndian, bigEndian-number, bigEndian-two}
+use Rattle.tack_extension.specs.Extension.{Parts, parts, good, bytesOf, read, tackLength, breaksLength, tackStep, breaksStep, activationStep, afterTack, afterBreaks, afterActivation, parse}
+use Rattle.tack_extension.specs.Answers.{writing, output}
+use Rattle.tack_extension.specs.declared.writer.Writing.the-variants.{Written}
+use Rattle.tack_extension.proofs.Steps.{breaks-small, cut-append, parsed}
+use Rattle.tack_extension.proofs.Writing.{counted}
+
+-- an extension that reads has good parts
+pub reads-good : (s : List ℕ) (p : Parts) → parse s ≡ some p → good p ≡ true
+reads-good s p h =
+    let w = parsed s p h in
+    and-both _ _ (w .tack .allowed) (and-both _ _ (w .breaks .allowed) (w .activation .small))
+
+bytes-tail : (x : ℕ) (s : List ℕ) → Bytes (x ∷ s) → Bytes s
+bytes-tail x s h i = h (suc i)
+
+bytes-behind : (p r : List ℕ) → Bytes (p ++ r) → Bytes r
+bytes-behind p r h i = rw (← (getD-append-add p r i 0)) (h (length p + i))
+
+two : (h l : ℕ) → h < 256 → l < 256 → (n : ℕ) → n ≡ number (h ∷ l ∷ []) → bigEndian 2 n ≡ h ∷ l ∷ []
+two h l hh hl n e = ap (bigEndian 2) e ∙ bigEndian-number (h ∷ l ∷ []) each
+  where
+    each : (i : ℕ) → getD (h ∷ l ∷ []) i 0 < 256
+    each zero = hh
+    each (suc zero) = hl
+    each (suc (suc i)) = omega arith
+
+-- every well-formed extension rewrites to the same bytes
+pub rewrites : (s : List ℕ) (p : Parts) → Bytes s → parse s ≡ some p → bytesOf p ≡ s
+unfolding bytesOf
+rewrites s p byte h =
+    let w = parsed s p h in
+    let inner : Bytes (length (p .tack) ∷ (p .tack ++ w .afterTack)) = rw (w .tack .bytes) byte in
+    let after : Bytes (w .breaks .high ∷ (w .breaks .low ∷ (p .breaks ++ w .afterBreaks))) =
+    rw (w .breaks .bytes) (bytes-behind (p .tack) (w .afterTack) (bytes-tail (length (p .tack)) (p .tack ++ w .afterTack) inner)) in
+    let digits : bigEndian 2 (length (p .breaks)) ≡ w .breaks .high ∷ w .breaks .low ∷ [] =
+    two (w .breaks .high) (w .breaks .low) (after 0) (after 1) (length (p .breaks)) (w .breaks .size) in
+    rw (digits, w .activation .bytes, w .breaks .bytes) (w .tack .bytes)
+
+breaks-back : (b r : List ℕ) → breaksLength (length b) ≡ true → breaksStep (bigEndian 2 (length b) ++ (b ++ r)) ≡ read b r
+unfolding breaksStep
+breaks-back b r h =
+    let n : number (bigEndian 2 (length b)) ≡ length b = number-bigEndian 2 (length b) (omega (arith, breaks-small (length b) h)) in
+    let d = bigEndian-two (length b) in
+    let m = ap number (sym d) ∙ n in
+    ap (λ (l : List ℕ). breaksStep (l ++ (b ++ r))) d ∙ rw m (simp h (cut-append (length b) b r refl))
+
+-- whatever the writer writes reads back as the same parts and activation
+pub reads-back : (p : Parts) → good p ≡ true → parse (bytesOf p) ≡ some p
+unfolding parse bytesOf tackStep activationStep
+reads-back p h =
+    let t : tackLength (length (p .tack)) ≡ true = and-left _ _ h in
+    let q = and-right (tackLength (length (p .tack))) _ h in
+    let b : breaksLength (length (p .breaks)) ≡ true = and-left _ _ q in
+    let a : leb (p .activation) 1 ≡ true = and-right (breaksLength (length (p .breaks))) _ q in
+    let r : List ℕ = bigEndian 2 (length (p .breaks)) ++ (p .breaks ++ (p .activation ∷ [])) in
+    let first : tackStep (length (p .tack) ∷ (p .tack ++ r)) ≡ read (p .tack) r =
+    simp t (cut-append (length (p .tack)) (p .tack) r refl) in
+    let last : activationStep (p .activation ∷ []) ≡ some (p .activation) = simp a in
+    ap afterTack first
+    ∙ ap (afterBreaks (p .tack)) (breaks-back (p .breaks) (p .activation ∷ []) b)
+    ∙ ap (afterActivation (p .tack) (p .breaks)) last
+
+-- a string of bytes is accepted exactly when it is what the writer writes for some good parts
+pub record Writable (s : List ℕ) (p : Parts) : Type 0 where
+  pub allowed : good p ≡ true
+  pub bytes : bytesOf p ≡ s
+
+pub accepted-exactly : (s : List ℕ) (p : Parts) → Bytes s → (parse s ≡ some p) ↔ Writable s p
+accepted-exactly s p byte = (
+  (λ h. record { allowed = reads-good s p h; bytes = rewrites s p byte h }),
+  (λ w. ap parse (sym (w .bytes)) ∙ reads-back p (w .allowed)),
+)
+
+-- where the writer answers with a number of bytes, those bytes read back as the same parts and activation, and no byte
+-- behind them is changed
+pub writer-reads : (t b : List ℕ) (a : ℕ) (out : List ℕ) (n : ℕ)
+    → writing (good (parts t b a)) (bytesOf (parts t b a)) out ≡ Written n
+    → (parse (take n (output (good (parts t b a)) (bytesOf (parts t b a)) out)) ≡ some (parts t b a))
+    × (drop n (output (good (parts t b a)) (bytesOf (parts t b a)) out) ≡ drop n out)
+writer-reads t b a out n h =
+    let w = counted (good (parts t b a)) (bytesOf (parts t b a)) out n h in
+    (ap parse (w .first) ∙ reads-back (parts t b a) (w .allowed), w .behind)
+
+-- E1, E2, E3 of document 01
+pub e1 : parse (0 ∷ 0 ∷ 0 ∷ 0 ∷ []) ≡ some (parts [] [] 0)
+unfolding parse tackStep breaksStep activationStep number numberAfter
+e1 = refl
+
+pub e2 : parse (0 ∷ 0 ∷ 0 ∷ 2 ∷ []) ≡ none
+unfolding parse tackStep breaksStep activationStep number numberAfter
+e2 = refl
+
+pub e3 : parse [] ≡ none
+unfolding parse tackStep
+e3 = refl

@@ -1,0 +1,168 @@
+//! The judge: one finished connection, a lent pin table, a verdict.
+//!
+//! All refusals come before the first change, so a refused call leaves the
+//! table as it was.
+
+use crate::answer::{
+    alert_of, BREAK_SIGNATURE_INCORRECT, CLOCK_ABOVE_LIMIT, CLOCK_BEFORE_LATEST, CONFIRMED,
+    CONTRADICTED, EXPIRED, EXTENSION_MALFORMED, GENERATION_BELOW_FLOOR,
+    GENERATION_BELOW_OWN_MINIMUM, HANDSHAKE_NOT_FINISHED, KEY_NOT_A_POINT, NAME_MALFORMED,
+    TACK_SIGNATURE_INCORRECT, TARGET_HASH_UNEQUAL, UNPINNED,
+};
+use crate::extension::{Extension, Tack};
+use crate::minutes::Minutes;
+use crate::name::is_well_formed;
+use crate::pins::{NoRoom, PinTable};
+use crate::table::parse;
+
+/// What the caller knows of the connection. Answers for absent things are
+/// ignored.
+#[derive(Debug, Clone, Copy)]
+pub struct Connection<'a> {
+    pub clock: u64,
+    pub name: &'a [u8],
+    pub extension: Option<&'a [u8]>,
+    pub spki_sha256: &'a [u8],
+    pub handshake_finished: bool,
+    pub key_is_point: bool,
+    pub signature_correct: bool,
+    /// Bit i, the lowest being 0, says that break signature i is correct.
+    pub breaks_correct: u8,
+}
+
+#[derive(Debug, Clone, Copy, PartialEq, Eq)]
+pub struct Judgement {
+    pub number: u8,
+    pub alert: u8,
+    pub no_room: bool,
+}
+
+impl Judgement {
+    fn new(number: u8, no_room: bool) -> Judgement {
+        let alert = alert_of(number);
+        Judgement {
+            number,
+            alert,
+            no_room,
+        }
+    }
+}
+
+pub fn judge(area: &mut [u8], connection: &Connection) -> Judgement {
+    let mut case = match Case::admit(area, connection) {
+        Ok(case) => case,
+        Err(refusal) => return Judgement::new(refusal, false),
+    };
+    let no_room = case.take_steps().is_err();
+    case.table.write(area);
+    Judgement::new(case.verdict(), no_room)
+}
+
+/// A connection that no refusal applies to, with the table it is judged by.
+struct Case<'a> {
+    table: PinTable,
+    name: &'a [u8],
+    clock: Minutes,
+    extension: Extension,
+}
+
+impl<'a> Case<'a> {
+    /// The lowest number that applies is the refusal.
+    fn admit(area: &[u8], connection: &Connection<'a>) -> Result<Case<'a>, u8> {
+        let table = parse(area).map_err(|damage| damage.number())?;
+        let name = connection.name;
+        refuse_if(!is_well_formed(name), NAME_MALFORMED)?;
+        let clock = Minutes::from_clock(connection.clock).ok_or(CLOCK_ABOVE_LIMIT)?;
+        refuse_if(clock < table.latest(), CLOCK_BEFORE_LATEST)?;
+        refuse_if(!connection.handshake_finished, HANDSHAKE_NOT_FINISHED)?;
+        let extension = match connection.extension {
+            Some(bytes) => Extension::parse(bytes).ok_or(EXTENSION_MALFORMED)?,
+            None => Extension::absent(),
+        };
+        let case = Case {
+            table,
+            name,
+            clock,
+            extension,
+        };
+        case.check_breaks(connection.breaks_correct)?;
+        if let Some(tack) = &case.extension.tack {
+            case.check_tack(tack, connection)?;
+        }
+        Ok(case)
+    }
+
+    fn check_breaks(&self, correct: u8) -> Result<(), u8> {
+        let count = self.extension.breaks.len();
+        let all_correct = (0..count).all(|index| correct >> index & 1 == 1);
+        refuse_if(!all_correct, BREAK_SIGNATURE_INCORRECT)
+    }
+
+    fn check_tack(&self, tack: &Tack, connection: &Connection) -> Result<(), u8> {
+        refuse_if(!connection.key_is_point, KEY_NOT_A_POINT)?;
+        let below_own_minimum = tack.generation < tack.min_generation;
+        refuse_if(below_own_minimum, GENERATION_BELOW_OWN_MINIMUM)?;
+        let hash_unequal = connection.spki_sha256 != tack.target_hash;
+        refuse_if(hash_unequal, TARGET_HASH_UNEQUAL)?;
+        refuse_if(!connection.signature_correct, TACK_SIGNATURE_INCORRECT)?;
+        let floor = self.table.floor(&tack.public_key);
+        let below_floor = floor.is_some_and(|floor| tack.generation < floor);
+        refuse_if(below_floor, GENERATION_BELOW_FLOOR)?;
+        refuse_if(tack.expiration < self.clock, EXPIRED)
+    }
+
+    /// The steps in the paper's order. Without room the call goes on, so that
+    /// one tenant's scan cannot freeze the others.
+    fn take_steps(&mut self) -> Result<(), NoRoom> {
+        let room = self.learn_from_tack();
+        for broken in &self.extension.breaks {
+            self.table.remove_key(&broken.public_key);
+        }
+        self.table.set_latest(self.clock);
+        room
+    }
+
+    fn learn_from_tack(&mut self) -> Result<(), NoRoom> {
+        let Some(tack) = &self.extension.tack else {
+            return Ok(());
+        };
+        let key = &tack.public_key;
+        self.table.raise_floor(key, tack.min_generation);
+        match self.table.pin(self.name) {
+            Some((_, key_record)) if key_record.key == *key => {
+                if self.extension.activation {
+                    self.table.activate(self.name, self.clock);
+                }
+                Ok(())
+            }
+            Some((name_record, _)) if name_record.is_active(self.clock) => Ok(()),
+            // Creation does not look at activation.
+            _ => self
+                .table
+                .create(self.name, key, tack.min_generation, self.clock),
+        }
+    }
+
+    /// By the record that stands after the steps.
+    fn verdict(&self) -> u8 {
+        let shown = self.extension.tack.as_ref().map(|tack| tack.public_key);
+        match self.table.pin(self.name) {
+            Some((name_record, key_record)) if name_record.is_active(self.clock) => {
+                if shown == Some(key_record.key) {
+                    CONFIRMED
+                } else {
+                    CONTRADICTED
+                }
+            }
+            _ => UNPINNED,
+        }
+    }
+}
+
+fn refuse_if(applies: bool, number: u8) -> Result<(), u8> {
+    if applies {
+        Err(number)
+    } else {
+        Ok(())
+    }
+}

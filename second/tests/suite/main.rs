@@ -1,0 +1,13 @@
+//! Worked examples, limits and broken rules, by the papers.
+
+mod calls;
+mod examples;
+mod extension;
+mod journal;
+mod manage;
+mod names;
+mod refusals;
+mod room;
+mod soundness;
+mod steps;
+mod totality;
