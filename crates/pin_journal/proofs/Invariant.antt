@@ -1,0 +1,95 @@
+-- The invariant of a run, and what keeps it: nothing done, a judgement with a verdict, a deletion, a start. Assumes nothing.
+use mathlib.Core.Path.{_≡_, refl, sym, _∙_, ap, subst}
+use mathlib.Core.Bool.{Bool, true, false, cond, false≢true}
+use mathlib.Core.List.{List, [], _∷_}
+use Prim.Native.Nat.{ℕ, max}
+use native.Mathlib.Omega.{arith}
+use Rattle.octets.proofs.Tests.{and-left}
+use Rattle.pin_model.specs.Slots.{struck}
+use Rattle.pin_model.specs.Table.{Table, empty, without}
+use Rattle.pin_model.specs.Judge.{Connection, tackShown, judged}
+use Rattle.pin_model.specs.Calls.{Call, judge, delete, start}
+use Rattle.pin_journal.specs.Journal.{Row, Entry, rowOf, rowKey, taught, journal, stands, since, highest, isVerdict, tackOfCall, shownUnder}
+use Rattle.pin_journal.proofs.Counts.{struck-left}
+use Rattle.pin_journal.proofs.Agreement.{Agrees, refloored}
+use Rattle.pin_journal.proofs.Steps.{without-agrees, unbroken}
+use Rattle.pin_journal.proofs.Judging.{Learned, judged-learned}
+
+abbrev pub Invariant : Table → List Entry → Type 0
+Invariant t entries = Agrees t (journal entries) (λ k. highest k (since k entries))
+
+abbrev pub entry : Call → ℕ → Entry
+entry call n = record { call = call; number = n }
+
+-- what one call with its number showed under a key
+abbrev pub shownBy : List ℕ → Entry → ℕ
+shownBy k e = cond (isVerdict (e .number)) (shownUnder k (tackOfCall (e .call))) 0
+
+-- 'since that record was made, the making call included', one call later
+pub highest-since : (k : List ℕ) (e : Entry) (es : List Entry) → stands k (journal (e ∷ es)) ≡ true
+    → highest k (since k (e ∷ es)) ≡ max (shownBy k e) (cond (stands k (journal es)) (highest k (since k es)) 0)
+unfolding since
+highest-since k e es h =
+    ap (λ (b : Bool). highest k (cond b (e ∷ cond (stands k (journal es)) (since k es) []) [])) h ∙ go (stands k (journal es))
+  where
+    go : (b : Bool) → max (shownBy k e) (highest k (cond b (since k es) [])) ≡ max (shownBy k e) (cond b (highest k (since k es)) 0)
+    go true = refl
+    go false = refl
+
+-- the invariant after one more call, from its floors
+entered : (t : Table) (e : Entry) (es : List Entry) (floor : List ℕ → ℕ) → Agrees t (journal (e ∷ es)) floor
+    → ((k : List ℕ) → stands k (journal (e ∷ es)) ≡ true
+    → floor k ≡ max (shownBy k e) (cond (stands k (journal es)) (highest k (since k es)) 0))
+    → Invariant t (e ∷ es)
+entered t e es floor agrees h =
+    refloored agrees (λ k. highest k (since k (e ∷ es))) (λ k stood. h k stood ∙ sym (highest-since k e es stood))
+
+-- a call that changes neither the table nor the rows, and showed nothing
+pub idle : (t : Table) (e : Entry) (es : List Entry) → Invariant t es → journal (e ∷ es) ≡ journal es → ((k : List ℕ) → shownBy k e ≡ 0)
+    → Invariant t (e ∷ es)
+idle t e es invariant rows nothing =
+    entered t e es (λ k. highest k (since k es))
+    (subst (λ (r : List Row). Agrees t r (λ k. highest k (since k es))) (sym rows) invariant)
+    (λ k stood. rw (nothing k, sym (ap (stands k) rows) ∙ stood) (omega arith))
+
+-- 'It begins empty.'
+pub begin : Invariant empty []
+unfolding journal since
+begin =
+    record {
+      sameNames = λ p. refl;
+      sameFloors = λ k p. refl;
+      nameSlots = refl;
+      keySlots = refl;
+      nameOnce = λ n. omega arith;
+      keyOnce = λ k. omega arith;
+    }
+
+-- 'starting strikes all rows'
+pub start-invariant : (es : List Entry) → Invariant empty (entry start 7 ∷ es)
+unfolding journal since
+start-invariant es = entered empty (entry start 7) es (λ k. 0) begin (λ k stood. absurd (false≢true stood))
+
+-- 'Deletion strikes the name's row'
+pub delete-invariant : (name : List ℕ) (t : Table) (es : List Entry) → Invariant t es → Invariant (without name t) (entry (delete name) 3 ∷ es)
+unfolding journal
+delete-invariant name t es invariant =
+    entered (without name t) (entry (delete name) 3) es (λ k. highest k (since k es)) (without-agrees name invariant)
+    (λ k stood.
+    rw (and-left (stands k (journal es)) (stands k (struck (rowOf name) (journal es))) (struck-left (rowKey k) (rowOf name) (journal es) ∙ stood))
+    (omega arith))
+
+-- 'Judging with a verdict'
+pub judge-invariant : (c : Connection) (t : Table) (es : List Entry) (n : ℕ) → isVerdict n ≡ true → Invariant t es
+    → Invariant (judged c t) (entry (judge c) n ∷ es)
+unfolding journal
+judge-invariant c t es n verdict invariant =
+    let l : Learned (tackShown c) (journal es) (λ k. highest k (since k es)) (judged c t) (unbroken c (taught c (tackShown c) (journal es))) =
+    judged-learned c t (journal es) (λ k. highest k (since k es)) invariant in
+    let rows : journal (entry (judge c) n ∷ es) ≡ unbroken c (taught c (tackShown c) (journal es)) =
+    ap (λ (b : Bool). cond b (unbroken c (taught c (tackShown c) (journal es))) (journal es)) verdict in
+    entered (judged c t) (entry (judge c) n) es (l .floorAfter)
+    (subst (λ (r : List Row). Agrees (judged c t) r (l .floorAfter)) (sym rows) (l .agrees))
+    (λ k stood.
+    l .highest k (sym (ap (stands k) rows) ∙ stood)
+    ∙ ap (λ (b : Bool). max (cond b (shownUnder k (tackShown c)) 0) (cond (stands k (journal es)) (highest k (since k es)) 0)) (sym verdict))
