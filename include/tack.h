@@ -31,6 +31,26 @@ typedef struct {
     size_t written;
 } tack_writing;
 
+/* A verdict: 0 unpinned, 1 confirmed, 2 contradicted (alert 49); or a refusal, 10 to 23. no_room says that the table had no
+ * slot for a pin that was due; the connection has its verdict all the same. */
+typedef struct {
+    uint8_t number, alert;
+    bool no_room;
+} tack_judgement;
+
+/* Deletion: 3 deleted, 4 the name is not recorded, or 10 to 12. Starting: 7 started, or 10. */
+typedef struct {
+    uint8_t number, alert;
+} tack_outcome;
+
+/* 5: recorded, without an end; 6: with one; 4: not recorded; or 10 to 13. minutes_left is the end minus the given clock, 0 at
+ * the end and negative after it. A field without meaning is 0. */
+typedef struct {
+    uint8_t number, alert, floor;
+    uint32_t initial, end;
+    int64_t minutes_left;
+} tack_inspection;
+
 /* Reads an extension: is it well-formed, and what is its activation? */
 tack_reading tack_extension_read(const uint8_t *bytes, size_t length);
 
@@ -49,6 +69,42 @@ tack_writing tack_signed_bytes(const uint8_t *tack, size_t tack_length, uint8_t 
 /* Whether the bytes are a host name that the store takes: labels of 1 to 63 bytes of a-z, 0-9 and hyphen, no hyphen first or
  * last, joined by dots, 253 bytes at most. */
 bool tack_name_well_formed(const uint8_t *name, size_t length);
+
+/* The pin table is an area of 39,432 bytes that the caller keeps, in memory or in a file, and lends to each call; all zero is
+ * the empty table. An area of another length is 10, a damaged table 11, and a refusal leaves the area as it was. Clocks are
+ * whole minutes since 1970, 4,294,924,095 at most; above that it is 13. */
+#define TACK_TABLE_LENGTH 39432
+
+/* The refusals, the alert in brackets where there is one. Where several apply the lowest is given. 18 to 23 need a tack.
+ *
+ *   10  the area is not 39,432 bytes      17  a break signature is incorrect (51)
+ *   11  the table is damaged              18  the tack key is no P-256 point (51)
+ *   12  the name is malformed             19  the generation is below its own min_generation (50)
+ *   13  the clock is above the limit      20  the target hash is unequal (47)
+ *   14  the clock is before latest        21  the tack signature is incorrect (51)
+ *   15  the handshake is not finished     22  the generation is below the stored floor (44)
+ *   16  the extension is malformed (50)   23  the expiration is below the clock (45)
+ */
+
+/* Judges one finished connection and brings the table up to date. spki_sha256 is the SHA-256 of the server's
+ * SubjectPublicKeyInfo; bit i of breaks_correct, the lowest being 0, says that break signature i is correct. The extension's
+ * bytes are ignored where none came, and so are answers about what the extension does not hold. */
+tack_judgement tack_judge(uint8_t *table, size_t table_length, uint64_t clock,
+                          const uint8_t *name, size_t name_length,
+                          bool extension_came, const uint8_t *extension, size_t extension_length,
+                          const uint8_t *spki_sha256, size_t spki_sha256_length,
+                          bool handshake_finished, bool key_is_point, bool signature_correct,
+                          uint8_t breaks_correct);
+
+/* Removes a name's record, and its key if no name is left on it. */
+tack_outcome tack_delete(uint8_t *table, size_t table_length, const uint8_t *name, size_t name_length);
+
+/* Looks at a name's record. The clock may lie before the table's latest. */
+tack_inspection tack_inspect(const uint8_t *table, size_t table_length,
+                             const uint8_t *name, size_t name_length, uint64_t clock);
+
+/* Makes the empty table, whatever the area held. */
+tack_outcome tack_start(uint8_t *table, size_t table_length);
 
 #ifdef __cplusplus
 }

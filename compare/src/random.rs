@@ -4,8 +4,9 @@ pub struct Random(u64);
 
 impl Random {
     pub fn new(seed: u64) -> Random {
-        // The state must not be 0.
-        Random(seed ^ 0x9e37_79b9_7f4a_7c15 | 1)
+        // An odd factor keeps all seeds apart, and the state must not be 0.
+        let state = seed.wrapping_add(1).wrapping_mul(0x9e37_79b9_7f4a_7c15);
+        Random(state.max(1))
     }
 
     pub fn next(&mut self) -> u64 {
@@ -18,6 +19,16 @@ impl Random {
     /// A number below the bound, which is not 0.
     pub fn below(&mut self, bound: usize) -> usize {
         (self.next() % bound as u64) as usize
+    }
+
+    /// A number from 0 to the last.
+    pub fn up_to(&mut self, last: u32) -> u32 {
+        (self.next() % (u64::from(last) + 1)) as u32
+    }
+
+    /// A byte from the first on.
+    pub fn byte_from(&mut self, first: u8) -> u8 {
+        first + self.below(256 - usize::from(first)) as u8
     }
 
     pub fn one_in(&mut self, n: usize) -> bool {

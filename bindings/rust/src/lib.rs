@@ -4,17 +4,19 @@
 //! lifetimes and error types, and nothing of its own: each function makes one call of the C interface.
 //!
 //! * [`extension`]: the TACK extension (May 2012 draft) read and written.
+//! * [`table`]: the pin table, by which connections are judged.
 //! * [`is_host_name`]: whether the store takes a name.
 //! * [`raw`]: the C interface on slices, with the papers' own numbers.
 //!
-//! Every function answers for every input. An error carries the [`number`](extension::WriteError::number) and the
-//! [`alert`](extension::WriteError::alert) that the gateway's papers give it, and leaves all lent memory as it was.
+//! Every function answers for every input. An error carries the [`number`](table::Refusal::number) and the
+//! [`alert`](table::Refusal::alert) that the gateway's papers give it, and leaves all lent memory as it was.
 
 #![warn(missing_docs)]
 #![deny(unsafe_op_in_unsafe_fn)]
 
 pub mod extension;
 pub mod raw;
+pub mod table;
 
 /// Whether the bytes are a host name that the store takes: labels of 1 to 63 bytes of a-z, 0-9 and hyphen, no hyphen first or
 /// last, joined by dots, 253 bytes at most.

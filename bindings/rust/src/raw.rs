@@ -36,8 +36,71 @@ pub struct Writing {
     pub written: usize,
 }
 
+/// A verdict, 0 to 2, or a refusal, 10 to 23.
+#[repr(C)]
+#[derive(Debug, Clone, Copy, PartialEq, Eq)]
+pub struct Judgement {
+    /// 0 to 2, or 10 to 23.
+    pub number: u8,
+    /// The TLS alert that goes with the number, or 0.
+    pub alert: u8,
+    /// Whether the table had no slot for a pin that was due.
+    pub no_room: bool,
+}
+
+/// Deletion: 3, 4, or 10 to 12. Starting: 7 or 10.
+#[repr(C)]
+#[derive(Debug, Clone, Copy, PartialEq, Eq)]
+pub struct Outcome {
+    /// 3, 4, 7, or 10 to 12.
+    pub number: u8,
+    /// No alert goes with deletion or starting: 0.
+    pub alert: u8,
+}
+
+/// 5 without an end, 6 with one, 4 where the name is not recorded, or 10 to 13; a field without meaning is 0.
+#[repr(C)]
+#[derive(Debug, Clone, Copy, PartialEq, Eq)]
+pub struct Inspection {
+    /// 4 to 6, or 10 to 13.
+    pub number: u8,
+    /// No alert goes with inspection: 0.
+    pub alert: u8,
+    /// The key's floor: generations below it are revoked.
+    pub floor: u8,
+    /// When the record was made, in minutes since 1970.
+    pub initial: u32,
+    /// When the pin ends, in minutes since 1970.
+    pub end: u32,
+    /// The end minus the given clock.
+    pub minutes_left: i64,
+}
+
+/// The arguments of `tack_judge` besides the table.
+#[derive(Debug, Clone, Copy)]
+pub struct Connection<'a> {
+    /// Minutes since 1970.
+    pub clock: u64,
+    /// The server's host name.
+    pub name: &'a [u8],
+    /// Whether an extension came.
+    pub extension_came: bool,
+    /// Its bytes, ignored where none came.
+    pub extension: &'a [u8],
+    /// The SHA-256 of the server's SubjectPublicKeyInfo.
+    pub spki_sha256: &'a [u8],
+    /// Whether the handshake finished.
+    pub handshake_finished: bool,
+    /// Whether the tack key is a P-256 point.
+    pub key_is_point: bool,
+    /// Whether the tack signature is correct.
+    pub signature_correct: bool,
+    /// Bit i, the lowest being 0, says that break signature i is correct.
+    pub breaks_correct: u8,
+}
+
 mod library {
-    use super::{Reading, Span, Writing};
+    use super::{Inspection, Judgement, Outcome, Reading, Span, Writing};
 
     // As include/tack.h declares them.
     extern "C" {
@@ -60,6 +123,36 @@ mod library {
             out_length: usize,
         ) -> Writing;
         pub fn tack_name_well_formed(name: *const u8, length: usize) -> bool;
+        pub fn tack_judge(
+            table: *mut u8,
+            table_length: usize,
+            clock: u64,
+            name: *const u8,
+            name_length: usize,
+            extension_came: bool,
+            extension: *const u8,
+            extension_length: usize,
+            spki_sha256: *const u8,
+            spki_sha256_length: usize,
+            handshake_finished: bool,
+            key_is_point: bool,
+            signature_correct: bool,
+            breaks_correct: u8,
+        ) -> Judgement;
+        pub fn tack_delete(
+            table: *mut u8,
+            table_length: usize,
+            name: *const u8,
+            name_length: usize,
+        ) -> Outcome;
+        pub fn tack_inspect(
+            table: *const u8,
+            table_length: usize,
+            name: *const u8,
+            name_length: usize,
+            clock: u64,
+        ) -> Inspection;
+        pub fn tack_start(table: *mut u8, table_length: usize) -> Outcome;
     }
 }
 
@@ -107,4 +200,53 @@ pub fn signed_bytes(tack: &[u8], out: &mut [u8]) -> Writing {
 pub fn name_well_formed(name: &[u8]) -> bool {
     // SAFETY: the pointer and the length are those of one slice.
     unsafe { library::tack_name_well_formed(name.as_ptr(), name.len()) }
+}
+
+/// `tack_judge`.
+pub fn judge(table: &mut [u8], connection: &Connection) -> Judgement {
+    // SAFETY: each pointer goes with the length of its slice, and `table` overlaps no other.
+    unsafe {
+        library::tack_judge(
+            table.as_mut_ptr(),
+            table.len(),
+            connection.clock,
+            connection.name.as_ptr(),
+            connection.name.len(),
+            connection.extension_came,
+            connection.extension.as_ptr(),
+            connection.extension.len(),
+            connection.spki_sha256.as_ptr(),
+            connection.spki_sha256.len(),
+            connection.handshake_finished,
+            connection.key_is_point,
+            connection.signature_correct,
+            connection.breaks_correct,
+        )
+    }
+}
+
+/// `tack_delete`.
+pub fn delete(table: &mut [u8], name: &[u8]) -> Outcome {
+    // SAFETY: each pointer goes with the length of its slice, and `table` does not overlap `name`.
+    unsafe { library::tack_delete(table.as_mut_ptr(), table.len(), name.as_ptr(), name.len()) }
+}
+
+/// `tack_inspect`.
+pub fn inspect(table: &[u8], name: &[u8], clock: u64) -> Inspection {
+    // SAFETY: each pointer goes with the length of its slice.
+    unsafe {
+        library::tack_inspect(
+            table.as_ptr(),
+            table.len(),
+            name.as_ptr(),
+            name.len(),
+            clock,
+        )
+    }
+}
+
+/// `tack_start`.
+pub fn start(table: &mut [u8]) -> Outcome {
+    // SAFETY: the pointer and the length are those of one slice.
+    unsafe { library::tack_start(table.as_mut_ptr(), table.len()) }
 }

@@ -1,4 +1,8 @@
-pub mod Grammar
-pub mod Names
 pub mod Steps
+pub mod Dots
+pub mod Bytes
+pub mod Labels
+pub mod Places
+pub mod Moved
+pub mod Names
 pub mod Refused

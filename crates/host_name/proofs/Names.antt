@@ -1,6 +1,6 @@
 -- The test is the paper's sentence: it takes exactly the names of at most 253 bytes. Assumes nothing.
 use mathlib.Core.Path.{_≡_, refl}
-use mathlib.Core.Bool.{true, false, and-false, false≢true}
+use mathlib.Core.Bool.{true, false≢true}
 use mathlib.Core.List.{List, [], _∷_, _++_, append-nil}
 use mathlib.Core.Logic.{_↔_}
 use Prim.Native.Nat.{ℕ, _≤_}
@@ -8,22 +8,17 @@ use native.Mathlib.Omega.{arith}
 use lib.Dec.{eqb, leb}
 use lib.ListN.{length}
 use lib.Seq.{append-snoc}
-use borrow.Author.Tests.{le-leb, leb-true, ne-eqb, eqb-true}
+use borrow.Author.Tests.{le-leb, leb-true, eqb-true}
 use Rattle.octets.specs.Octets.{all}
 use Rattle.octets.proofs.Tests.{byTest, and-left, and-right, and-both}
 use Rattle.host_name.specs.Name.{dot, isLabel, Name, label, dotted, betweenDots, wellFormed}
-use Rattle.host_name.specs.Scan.{labelByte}
-use Rattle.host_name.proofs.Grammar.{first, others, toFirst-parts}
-
--- there is always a part before the first dot
-parts : (s : List ℕ) → betweenDots s ≡ first (betweenDots s) ∷ others (betweenDots s)
-unfolding betweenDots
-parts [] = refl
-parts (b ∷ s) = byTest (eqb b dot) (λ e. simp e) (λ e. simp (e, toFirst-parts))
+use Rattle.host_name.specs.Scan.{labelByte, toDot}
+use Rattle.host_name.proofs.Dots.{behind, parts}
+use Rattle.host_name.proofs.Bytes.{no-dot, isLabel-bytes}
 
 -- p is read of a label, and s remains
-labels-name : (p s : List ℕ) → all isLabel ((p ++ first (betweenDots s)) ∷ others (betweenDots s)) ≡ true → Name (p ++ s)
-unfolding betweenDots
+labels-name : (p s : List ℕ) → all isLabel ((p ++ toDot s) ∷ behind s) ≡ true → Name (p ++ s)
+unfolding toDot behind
 labels-name p [] h = label (and-left (isLabel (p ++ [])) true h)
 labels-name p (b ∷ s) h =
     byTest (eqb b dot)
@@ -32,15 +27,8 @@ labels-name p (b ∷ s) h =
     (dotted p
     (rw append-nil at (and-left (isLabel (p ++ [])) (all isLabel (betweenDots s)) k))
     (labels-name [] s (rw (parts s) at (and-right (isLabel (p ++ [])) (all isLabel (betweenDots s)) k)))))
-    (λ e. let k : all isLabel ((p ++ (b ∷ first (betweenDots s))) ∷ others (betweenDots s)) ≡ true = rw (e, toFirst-parts) at h in
+    (λ e. let k : all isLabel ((p ++ (b ∷ toDot s)) ∷ behind s) ≡ true = rw e at h in
     rw append-snoc at (labels-name (p ++ (b ∷ [])) s (rw append-snoc k)))
-
-isLabel-bytes : (l : List ℕ) → isLabel l ≡ true → all labelByte l ≡ true
-unfolding isLabel
-isLabel-bytes l h = byTest (all labelByte l) (λ e. e) (λ e. absurd (false≢true (simp (e, and-false) at h)))
-
-no-dot : (b : ℕ) → labelByte b ≡ true → eqb b dot ≡ false
-no-dot b h = ne-eqb b dot (λ e. false≢true (rw e at h))
 
 -- the bytes of a label stand together, before a dot or the end
 between-label : (l t : List ℕ) (ls : List (List ℕ)) → all labelByte l ≡ true → betweenDots t ≡ [] ∷ ls → betweenDots (l ++ t) ≡ l ∷ ls

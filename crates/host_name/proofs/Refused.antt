@@ -1,44 +1,40 @@
 -- 'Upper case and a final dot are refused.' Assumes nothing.
-use mathlib.Core.Path.{_≡_, refl}
-use mathlib.Core.Bool.{Bool, false, not, and-false}
+use mathlib.Core.Path.{_≡_}
+use mathlib.Core.Bool.{Bool, false, and-false}
 use mathlib.Core.List.{List, [], _∷_, _++_}
-use Prim.Native.Nat.{ℕ, _+_, _≤_}
+use Prim.Native.Nat.{ℕ, _≤_}
 use native.Mathlib.Omega.{arith}
 use lib.Dec.{eqb}
+use lib.Seq.{append-snoc}
 use borrow.Author.Tests.{lt-leb, ne-eqb}
+use Rattle.octets.specs.Octets.{all}
 use Rattle.octets.proofs.Tests.{byTest}
-use Rattle.host_name.specs.Name.{hyphen, dot, letterOrDigit, wellFormed}
-use Rattle.host_name.specs.Scan.{inLabel, afterDot}
-use Rattle.host_name.proofs.Grammar.{afterDot-grammar}
+use Rattle.host_name.specs.Name.{hyphen, dot, letterOrDigit, isLabel, betweenDots, wellFormed}
+use Rattle.host_name.specs.Scan.{nameByte, toDot}
+use Rattle.host_name.proofs.Dots.{behind, parts}
+use Rattle.host_name.proofs.Bytes.{bytes-refused}
 
--- what both states refuse, they refuse behind any bytes
-module _ (t : List ℕ) (in-refused : (n : ℕ) (h : Bool) → inLabel n h t ≡ false) (after-refused : afterDot t ≡ false) where
-  mutual
-    unfolding inLabel afterDot
-
-    inLabel-refused : (n : ℕ) (h : Bool) (s : List ℕ) → inLabel n h (s ++ t) ≡ false
-    inLabel-refused n h [] = in-refused n h
-    inLabel-refused n h (b ∷ s) =
-        byTest (eqb b dot)
-        (λ e. simp (e, afterDot-refused s, and-false))
-        (λ e. simp (e, inLabel-refused (n + 1) (eqb b hyphen) s, and-false))
-
-    afterDot-refused : (s : List ℕ) → afterDot (s ++ t) ≡ false
-    afterDot-refused [] = after-refused
-    afterDot-refused (b ∷ s) = simp (inLabel-refused 1 false s, and-false)
-
-  wellFormed-refused : (s : List ℕ) → wellFormed (s ++ t) ≡ false
-  unfolding wellFormed
-  wellFormed-refused s = simp (← (afterDot-grammar (s ++ t)), afterDot-refused s, and-false)
+-- the label behind the final dot is empty; p is read of a label, and s remains before that dot
+dot-behind : (p s : List ℕ) → all isLabel ((p ++ toDot (s ++ (dot ∷ []))) ∷ behind (s ++ (dot ∷ []))) ≡ false
+unfolding toDot behind betweenDots isLabel
+dot-behind p [] = and-false (isLabel (p ++ []))
+dot-behind p (b ∷ s) =
+    byTest (eqb b dot)
+    (λ e. rw e (rw (parts (s ++ (dot ∷ [])), dot-behind [] s) (and-false (isLabel (p ++ [])))))
+    (λ e. rw e (rw append-snoc at (dot-behind (p ++ (b ∷ [])) s)))
 
 pub final-dot : (s : List ℕ) → wellFormed (s ++ (dot ∷ [])) ≡ false
-unfolding inLabel afterDot
-final-dot s = wellFormed-refused (dot ∷ []) (λ n h. and-false (not h)) refl s
+unfolding wellFormed
+final-dot s = simp (parts (s ++ (dot ∷ [])), dot-behind [] s, and-false)
+
+not-all : (p : ℕ → Bool) (s t : List ℕ) (b : ℕ) → p b ≡ false → all p (s ++ (b ∷ t)) ≡ false
+not-all p [] t b e = simp e
+not-all p (a ∷ s) t b e = simp (not-all p s t b e, and-false)
 
 pub upper-case : (s t : List ℕ) (b : ℕ) → 65 ≤ b → b ≤ 90 → wellFormed (s ++ (b ∷ t)) ≡ false
-unfolding inLabel afterDot
+unfolding wellFormed
 upper-case s t b low high =
     let l : letterOrDigit b ≡ false = simp (lt-leb 97 b (omega arith), lt-leb b 57 (omega arith), and-false) in
     let d : eqb b dot ≡ false = ne-eqb b dot (λ e. omega arith) in
     let y : eqb b hyphen ≡ false = ne-eqb b hyphen (λ e. omega arith) in
-    wellFormed-refused (b ∷ t) (λ n h. simp (d, l, y, and-false)) (simp l) s
+    simp (bytes-refused (s ++ (b ∷ t)) (not-all nameByte s t b (simp (l, y, d))), and-false)

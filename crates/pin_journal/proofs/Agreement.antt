@@ -2,24 +2,19 @@
 use mathlib.Core.Path.{_≡_, refl, sym, _∙_, ap}
 use mathlib.Core.Bool.{Bool, true, false, _&&_, and-true}
 use mathlib.Core.List.{List, map}
-use Prim.Native.Nat.{ℕ, _≤_}
-use lib.ListN.{length}
+use Prim.Native.Nat.{ℕ}
 use Rattle.octets.specs.Octets.{any}
 use Rattle.pin_model.specs.Slots.{used}
-use Rattle.pin_model.specs.Table.{NameRecord, Table, keyIs, nameIs, keyRecorded}
-use Rattle.pin_model.proofs.Lists.{count, any-ext, Alike, alike-any}
+use Rattle.pin_model.specs.Table.{NameRecord, Table, keyIs, keyRecorded}
+use Rattle.pin_model.specs.Judge.{Connection, settle}
+use Rattle.pin_model.proofs.Lists.{any-ext, Alike, alike-any, any-map}
 use Rattle.pin_journal.specs.Journal.{Row, stands}
-use Rattle.pin_journal.proofs.Counts.{any-map}
 use Rattle.pin_journal.proofs.Sealed.{sealed}
 
 -- a used key slot has a key exactly while the key's record stands, and then its floor passes the tests that `floor` does
 pub record Agrees (t : Table) (rows : List Row) (floor : List ℕ → ℕ) : Type 0 where
   pub sameNames : Alike (used (t .names)) (map sealed rows)
   pub sameFloors : (k : List ℕ) (p : ℕ → Bool) → any (λ r. keyIs k r && p (r .floor)) (used (t .keys)) ≡ (stands k rows && p (floor k))
-  pub nameSlots : length (t .names) ≡ 128
-  pub keySlots : length (t .keys) ≡ 64
-  pub nameOnce : (n : List ℕ) → count (nameIs n) (used (t .names)) ≤ 1
-  pub keyOnce : (k : List ℕ) → count (keyIs k) (used (t .keys)) ≤ 1
 
 module _ {t : Table} {rows : List Row} {floor : List ℕ → ℕ} (agrees : Agrees t rows floor) where
   -- what some name record passes, some row does
@@ -32,16 +27,16 @@ module _ {t : Table} {rows : List Row} {floor : List ℕ → ℕ} (agrees : Agre
       any-ext (keyIs k) (λ r. keyIs k r && true) (λ r. sym (and-true (keyIs k r))) (used (t .keys))
       ∙ agrees .sameFloors k (λ n. true) ∙ and-true (stands k rows)
 
+  -- '4. Latest becomes the clock.' It is no part of the agreement.
+  pub settled : (c : Connection) → Agrees (settle c t) rows floor
+  settled c = record { sameNames = agrees .sameNames; sameFloors = agrees .sameFloors }
+
   -- only the floors of keys that stand matter
   pub refloored : (other : List ℕ → ℕ) → ((k : List ℕ) → stands k rows ≡ true → floor k ≡ other k) → Agrees t rows other
   refloored other h =
       record {
         sameNames = agrees .sameNames;
         sameFloors = λ k p. agrees .sameFloors k p ∙ go k p (stands k rows) refl;
-        nameSlots = agrees .nameSlots;
-        keySlots = agrees .keySlots;
-        nameOnce = agrees .nameOnce;
-        keyOnce = agrees .keyOnce;
       }
     where
       go : (k : List ℕ) (p : ℕ → Bool) (b : Bool) → stands k rows ≡ b → (b && p (floor k)) ≡ (b && p (other k))

@@ -2,17 +2,16 @@
 use mathlib.Core.Path.{_≡_, refl, sym, _∙_, ap, subst}
 use mathlib.Core.Bool.{Bool, true, false, cond, false≢true}
 use mathlib.Core.List.{List, [], _∷_}
-use Prim.Native.Nat.{ℕ, max}
+use Prim.Native.Nat.{ℕ, _≤_, max}
 use native.Mathlib.Omega.{arith}
-use Rattle.octets.proofs.Tests.{and-left}
-use Rattle.pin_model.specs.Slots.{struck}
-use Rattle.pin_model.specs.Table.{Table, empty, without}
+use Rattle.pin_model.specs.Table.{clockLimit, Table, empty, without}
 use Rattle.pin_model.specs.Judge.{Connection, tackShown, judged}
 use Rattle.pin_model.specs.Calls.{Call, judge, delete, start}
-use Rattle.pin_journal.specs.Journal.{Row, Entry, rowOf, rowKey, taught, journal, stands, since, highest, isVerdict, tackOfCall, shownUnder}
-use Rattle.pin_journal.proofs.Counts.{struck-left}
+use Rattle.pin_model.proofs.Lists.{struck-any}
+use Rattle.pin_model.proofs.SoundFacts.{SoundFacts}
+use Rattle.pin_journal.specs.Journal.{Row, Entry, rowOf, rowKey, taught, unbroken, journal, stands, since, highest, isVerdict, tackOfCall, shownUnder}
 use Rattle.pin_journal.proofs.Agreement.{Agrees, refloored}
-use Rattle.pin_journal.proofs.Steps.{without-agrees, unbroken}
+use Rattle.pin_journal.proofs.Steps.{without-agrees}
 use Rattle.pin_journal.proofs.Judging.{Learned, judged-learned}
 
 abbrev pub Invariant : Table → List Entry → Type 0
@@ -59,10 +58,6 @@ begin =
     record {
       sameNames = λ p. refl;
       sameFloors = λ k p. refl;
-      nameSlots = refl;
-      keySlots = refl;
-      nameOnce = λ n. omega arith;
-      keyOnce = λ k. omega arith;
     }
 
 -- 'starting strikes all rows'
@@ -75,17 +70,15 @@ pub delete-invariant : (name : List ℕ) (t : Table) (es : List Entry) → Invar
 unfolding journal
 delete-invariant name t es invariant =
     entered (without name t) (entry (delete name) 3) es (λ k. highest k (since k es)) (without-agrees name invariant)
-    (λ k stood.
-    rw (and-left (stands k (journal es)) (stands k (struck (rowOf name) (journal es))) (struck-left (rowKey k) (rowOf name) (journal es) ∙ stood))
-    (omega arith))
+    (λ k stood. rw (struck-any (rowKey k) (rowOf name) (journal es) stood) (omega arith))
 
 -- 'Judging with a verdict'
-pub judge-invariant : (c : Connection) (t : Table) (es : List Entry) (n : ℕ) → isVerdict n ≡ true → Invariant t es
-    → Invariant (judged c t) (entry (judge c) n ∷ es)
+pub judge-invariant : (c : Connection) (t : Table) (es : List Entry) (n : ℕ) → isVerdict n ≡ true → Invariant t es → SoundFacts t
+    → t .latest ≤ c .clock → c .clock ≤ clockLimit → Invariant (judged c t) (entry (judge c) n ∷ es)
 unfolding journal
-judge-invariant c t es n verdict invariant =
+judge-invariant c t es n verdict invariant facts inOrder inLimit =
     let l : Learned (tackShown c) (journal es) (λ k. highest k (since k es)) (judged c t) (unbroken c (taught c (tackShown c) (journal es))) =
-    judged-learned c t (journal es) (λ k. highest k (since k es)) invariant in
+    judged-learned c t (journal es) (λ k. highest k (since k es)) invariant facts inOrder inLimit in
     let rows : journal (entry (judge c) n ∷ es) ≡ unbroken c (taught c (tackShown c) (journal es)) =
     ap (λ (b : Bool). cond b (unbroken c (taught c (tackShown c) (journal es))) (journal es)) verdict in
     entered (judged c t) (entry (judge c) n) es (l .floorAfter)

@@ -1,44 +1,37 @@
--- Every call of the model's run keeps the invariant. Assumes nothing.
+-- Every call of a run keeps the invariant. Assumes nothing.
 use mathlib.Core.Path.{_≡_, refl}
-use mathlib.Core.Bool.{Bool, true, false, cond, not, _&&_}
+use mathlib.Core.Bool.{Bool, true, false, cond, not}
 use mathlib.Core.List.{List, [], _∷_}
 use mathlib.Core.Option.{Option, none, some}
 use Prim.Native.Nat.{ℕ}
 use lib.Dec.{eqb}
 use borrow.Author.Tests.{not-true}
-use Rattle.octets.specs.Octets.{any}
-use Rattle.pin_model.specs.Slots.{used}
-use Rattle.pin_model.specs.Table.{Table, nameRecorded, without}
-use Rattle.pin_model.specs.Judge.{Connection, tackShown, shows, activePin, connectionTests, judged, verdict}
+use Rattle.pin_model.specs.Table.{Table, nameRecorded, without, soundTable}
+use Rattle.pin_model.specs.Judge.{Connection, judged, verdict}
 use Rattle.pin_model.specs.Calls.{Call, judge, delete, inspect, start, granted, answerBy, deleted}
+use Rattle.pin_model.proofs.First.{first-number}
+use Rattle.pin_model.proofs.Refusals.{refusal-facts, laterTests}
+use Rattle.pin_model.proofs.SoundFacts.{sound-facts}
+use Rattle.pin_model.proofs.TableCalls.{tableRefusal, tableAnswer, tableBy, tableNext}
 use Rattle.pin_journal.specs.Journal.{Entry, journal, isVerdict}
+use Rattle.pin_journal.specs.Demand3.{entriesOf}
 use Rattle.pin_journal.proofs.Invariant.{Invariant, entry, idle, begin, start-invariant, delete-invariant, judge-invariant}
-use Rattle.pin_journal.proofs.Refusals.{first-number}
-use Rattle.pin_journal.proofs.TableRun.{tableTests, tableRefusal, tableAnswer, tableBy, tableNext, tableRun, tableNumber, tableEntries}
-
--- 'Verdicts are 0, 1 and 2'; no refusal of a connection is one
-pub verdict-number : (c : Connection) (t : Table) → isVerdict (verdict c t) ≡ true
-unfolding verdict
-verdict-number c t = go (any (activePin c) (used (t .names))) (any (λ r. activePin c r && shows (tackShown c) (r .key)) (used (t .names)))
-  where
-    go : (a b : Bool) → isVerdict (cond a (cond b 1 2) 0) ≡ true
-    go true true = refl
-    go true false = refl
-    go false b = refl
-
-pub refused-number : (c : Connection) (t : Table) (n : ℕ) → tableRefusal (judge c) t ≡ some n → isVerdict n ≡ false
-unfolding tableRefusal
-refused-number c t n e = not-true (isVerdict n) (first-number (λ m. not (isVerdict m)) (connectionTests c t) n refl e)
+use Rattle.pin_journal.proofs.TableNumbers.{verdict-number, refused-number}
+use Rattle.pin_journal.proofs.Run.{number-run}
+use Rattle.pin_journal.proofs.TableRun.{tableRun, run-sound}
 
 nothing-shown : (b : Bool) → _≡_ {A = ℕ} (cond b 0 0) 0
 nothing-shown true = refl
 nothing-shown false = refl
 
-module _ (t : Table) (es : List Entry) (invariant : Invariant t es) where
+module _ (t : Table) (es : List Entry) (invariant : Invariant t es) (sound : soundTable t ≡ true) where
   judge-kept : (c : Connection) (o : Option ℕ) → tableRefusal (judge c) t ≡ o
       → Invariant (tableBy o t (judged c t)) (entry (judge c) (answerBy o (granted (judge c) t) .number) ∷ es)
-  unfolding journal
-  judge-kept c none e = judge-invariant c t es (verdict c (judged c t)) (verdict-number c (judged c t)) invariant
+  unfolding journal tableRefusal
+  judge-kept c none e =
+      let passed = refusal-facts c t e in
+      judge-invariant c t es (verdict c (judged c t)) (verdict-number c (judged c t)) invariant (sound-facts t sound)
+      (passed .clockInOrder) (passed .clockInLimit)
   judge-kept c (some n) e = idle t (entry (judge c) n) es invariant (rw (refused-number c t n e)) (λ k. rw (refused-number c t n e))
 
   granted-delete : (name : List ℕ) (b : Bool) → Invariant (cond b (without name t) t) (entry (delete name) (cond b 3 4) ∷ es)
@@ -52,7 +45,7 @@ module _ (t : Table) (es : List Entry) (invariant : Invariant t es) where
   delete-kept name none e = granted-delete name (nameRecorded name t)
   delete-kept name (some n) e =
       idle t (entry (delete name) n) es invariant
-      (rw (not-true (eqb n 3) (first-number (λ m. not (eqb m 3)) (tableTests (delete name) t) n refl e)))
+      (rw (not-true (eqb n 3) (first-number (λ m. not (eqb m 3)) (laterTests (delete name) t) n refl e)))
       (λ k. nothing-shown (isVerdict n))
 
   inspect-kept : (name : List ℕ) (clock : ℕ) (o : Option ℕ)
@@ -70,7 +63,8 @@ module _ (t : Table) (es : List Entry) (invariant : Invariant t es) where
   call-kept (inspect name clock) = inspect-kept name clock (tableRefusal (inspect name clock) t)
   call-kept start = start-invariant es
 
-pub run-invariant : (calls : List Call) → Invariant (tableRun calls) (tableEntries calls)
-unfolding tableRun tableEntries tableNumber
+pub run-invariant : (calls : List Call) → Invariant (tableRun calls) (entriesOf calls)
+unfolding tableRun entriesOf
 run-invariant [] = begin
-run-invariant (call ∷ calls) = call-kept (tableRun calls) (tableEntries calls) (run-invariant calls) call
+run-invariant (call ∷ calls) =
+    rw (number-run call calls) (call-kept (tableRun calls) (entriesOf calls) (run-invariant calls) (run-sound calls) call)

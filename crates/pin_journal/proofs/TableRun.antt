@@ -1,43 +1,41 @@
--- The model's run: each call gets a table, not the bytes of one, and is never told 10 or 11. Assumes nothing.
-use mathlib.Core.Bool.{Bool, not}
+-- The model's run: each call gets a table, not the bytes of one. Every table of it is sound, and each of its keys is 64 bytes
+-- long. Assumes nothing.
+use mathlib.Core.Path.{_≡_, refl}
+use mathlib.Core.Bool.{true}
 use mathlib.Core.List.{List, [], _∷_}
 use mathlib.Core.Option.{Option, none, some}
 use Prim.Native.Nat.{ℕ}
-use lib.Dec.{ltb}
-use Rattle.host_name.specs.Name.{wellFormed}
-use Rattle.pin_model.specs.Table.{clockLimit, Table, empty}
-use Rattle.pin_model.specs.Judge.{connectionTests}
-use Rattle.pin_model.specs.Calls.{Call, judge, delete, inspect, start, Answer, first, granted, answerBy, tableAfter}
-use Rattle.pin_journal.specs.Journal.{Entry}
-
--- the tests behind those of the area
-abbrev pub tableTests : Call → Table → List (Bool × ℕ)
-tableTests (judge c) t = connectionTests c t
-tableTests (delete name) t = (not (wellFormed name), 12) ∷ []
-tableTests (inspect name clock) t = (not (wellFormed name), 12) ∷ (ltb clockLimit clock, 13) ∷ []
-tableTests start t = []
-
-unfoldable pub tableRefusal : Call → Table → Option ℕ
-tableRefusal call t = first (tableTests call t)
-
-unfoldable pub tableAnswer : Call → Table → Answer
-tableAnswer call t = answerBy (tableRefusal call t) (granted call t)
-
-abbrev pub tableBy : Option ℕ → Table → Table → Table
-tableBy (some n) t after = t
-tableBy none t after = after
-
-unfoldable pub tableNext : Call → Table → Table
-tableNext call t = tableBy (tableRefusal call t) t (tableAfter call t)
+use Rattle.pin_model.specs.Table.{Table, empty, soundTable}
+use Rattle.pin_model.specs.Calls.{Call, tableAfter}
+use Rattle.pin_model.proofs.Fits.{keysWhole}
+use Rattle.pin_model.proofs.SoundTable.{empty-sound}
+use Rattle.pin_model.proofs.SoundCalls.{tableAfter-keeps}
+use Rattle.pin_model.proofs.KeysWhole.{tableAfter-keysWhole}
+use Rattle.pin_model.proofs.TableCalls.{tableBy}
+unfoldable pub use Rattle.pin_model.proofs.TableCalls.{tableRefusal, tableAnswer, tableNext}
 
 -- the newest call comes first
 unfoldable pub tableRun : List Call → Table
 tableRun [] = empty
 tableRun (call ∷ calls) = tableNext call (tableRun calls)
 
-unfoldable pub tableNumber : Call → List Call → ℕ
-tableNumber call earlier = tableAnswer call (tableRun earlier) .number
+-- a refused call leaves the table as it is
+next-passes : (P : Table → Type 0) (call : Call) (t : Table) → P t → (tableRefusal call t ≡ none → P (tableAfter call t)) → P (tableNext call t)
+unfolding tableNext
+next-passes P call t before after = go (tableRefusal call t) refl
+  where
+    go : (o : Option ℕ) → tableRefusal call t ≡ o → P (tableBy o t (tableAfter call t))
+    go none e = after e
+    go (some n) e = before
 
-unfoldable pub tableEntries : List Call → List Entry
-tableEntries [] = []
-tableEntries (call ∷ calls) = record { call = call; number = tableNumber call calls } ∷ tableEntries calls
+pub run-sound : (calls : List Call) → soundTable (tableRun calls) ≡ true
+unfolding tableRun tableRefusal
+run-sound [] = empty-sound
+run-sound (call ∷ calls) =
+    next-passes (λ t. soundTable t ≡ true) call (tableRun calls) (run-sound calls) (tableAfter-keeps call (tableRun calls) (run-sound calls))
+
+pub run-whole : (calls : List Call) → keysWhole (tableRun calls) ≡ true
+unfolding tableRun
+run-whole [] = refl
+run-whole (call ∷ calls) =
+    next-passes (λ t. keysWhole t ≡ true) call (tableRun calls) (run-whole calls) (λ e. tableAfter-keysWhole call (tableRun calls) (run-whole calls))

@@ -9,10 +9,10 @@ use lib.ListN.{replicate}
 use Rattle.octets.specs.Octets.{any}
 use Rattle.tack_extension.specs.Tack.{publicKey, generation}
 use Rattle.pin_model.specs.Slots.{used}
-use Rattle.pin_model.specs.Table.{KeyRecord, Table, keyIs}
+use Rattle.pin_model.specs.Table.{KeyRecord, keyIs}
 use Rattle.pin_model.specs.Layout.{areaLength, decode}
 use Rattle.pin_model.specs.Judge.{Connection, tackShown, shows}
-use Rattle.pin_model.specs.Calls.{Call, judge, delete, inspect, start, answer, areaAfter}
+use Rattle.pin_model.specs.Calls.{Call, judge, answer, areaAfter}
 use Rattle.pin_journal.specs.Journal.{Row, Entry, journal, stands, since, highest, isVerdict, live, rowOf}
 
 -- 'The first call gets 39,432 zero bytes'; 'Each call gets the table as the last one left it.' The newest call comes first.

@@ -1,9 +1,9 @@
 -- The plain journal, by document 01, 'The journal of demand 3': fed each call and its number, and nothing from the table.
 -- Assumes nothing.
-use mathlib.Core.Bool.{Bool, true, false, cond, not, _&&_, _||_}
+use mathlib.Core.Bool.{Bool, false, cond, not, _&&_, _||_}
 use mathlib.Core.List.{List, [], _∷_, map}
 use mathlib.Core.Option.{Option, none, some}
-use Prim.Native.Nat.{ℕ, zero, suc, _+_, _-_, min, max}
+use Prim.Native.Nat.{ℕ, suc, _+_, _-_, min, max}
 use lib.Dec.{eqb, leb, ltb}
 use lib.ListN.{length}
 use Rattle.octets.specs.Octets.{same, any}
@@ -33,42 +33,54 @@ liveBy clock i (some t) = ltb clock (t + min 43200 (t - i))
 abbrev pub live : ℕ → Row → Bool
 live clock r = liveBy clock (r .i) (r .t)
 
--- 'different keys'
+-- 'if the name's row has the tack's key, activation 1 sets t to the clock'
+abbrev pub seenAt : ℕ → Row → Row
+seenAt clock r = record { name = r .name; key = r .key; i = r .i; t = some clock }
+
+abbrev pub seenRows : Connection → List ℕ → List Row → List Row
+seenRows c key rows = rewritten (λ r. enabled c && (rowOf (c .name) r && rowKey key r)) (seenAt (c .clock)) rows
+
+-- not so: 'If the name has no row, or a row with another key that isn't live'
+abbrev pub keepsRow : Connection → List ℕ → List Row → Bool
+keepsRow c key rows = any (λ r. rowOf (c .name) r && (rowKey key r || live (c .clock) r)) rows
+
+-- 'there are 128 rows, or 64 different keys and none is the tack's'
 abbrev pub different : List (List ℕ) → ℕ
 different [] = 0
 different (k ∷ ks) = cond (any (λ x. same x k) ks) (different ks) (suc (different ks))
 
--- 'sets t to the clock'
-abbrev pub seenAt : ℕ → Row → Row
-seenAt clock r = record { name = r .name; key = r .key; i = r .i; t = some clock }
+abbrev pub isFull : List ℕ → List Row → Bool
+isFull key rows = leb 128 (length rows) || (leb 64 (different (map (λ r. r .key) rows)) && not (any (rowKey key) rows))
 
 -- 'the old row, if any, is struck and a new one written: the name, the tack's key, i the clock, no t. But if, without the old
--- row, there are 128 rows, or 64 different keys and none is the tack's, nothing is struck or written.'
-abbrev pub writeRow : Connection → List ℕ → List Row → List Row
-writeRow c key rows =
-    let others = struck (rowOf (c .name)) rows in
-    cond (leb 128 (length others) || (leb 64 (different (map (λ r. r .key) others)) && not (any (rowKey key) others)))
-    rows
-    (record { name = c .name; key = key; i = c .clock; t = none } ∷ others)
+-- row,' it is full, 'nothing is struck or written.'
+abbrev pub otherRows : Connection → List Row → List Row
+otherRows c rows = struck (rowOf (c .name)) rows
 
--- 'if the name's row has the tack's key, activation 1 sets t to the clock. If the name has no row, or a row with another key
--- that isn't live ..'
+abbrev pub newRow : Connection → List ℕ → Row
+newRow c key = record { name = c .name; key = key; i = c .clock; t = none }
+
+abbrev pub writeRow : Connection → List ℕ → List Row → List Row
+writeRow c key rows = cond (isFull key (otherRows c rows)) rows (newRow c key ∷ otherRows c rows)
+
+-- 'Judging with a verdict and a tack'
 abbrev pub taught : Connection → Option (List ℕ) → List Row → List Row
 taught c none rows = rows
 taught c (some tack) rows =
-    let seen = rewritten (λ r. enabled c && (rowOf (c .name) r && rowKey (publicKey tack) r)) (seenAt (c .clock)) rows in
-    cond (any (λ r. rowOf (c .name) r && (rowKey (publicKey tack) r || live (c .clock) r)) seen) seen
-    (writeRow c (publicKey tack) seen)
+    let seen = seenRows c (publicKey tack) rows in
+    cond (keepsRow c (publicKey tack) seen) seen (writeRow c (publicKey tack) seen)
+
+-- 'Any judging with a verdict then strikes the rows with the key of one of its break signatures.'
+abbrev pub unbroken : Connection → List Row → List Row
+unbroken c rows = struck (λ r. listed (brokenKeys c) (r .key)) rows
 
 -- 'Verdicts are 0, 1 and 2'
 abbrev pub isVerdict : ℕ → Bool
 isVerdict n = ltb n 3
 
--- 'Refused calls and inspection change nothing. Deletion strikes the name's row, starting strikes all rows.' 'Any judging with
--- a verdict then strikes the rows with the key of one of its break signatures.'
+-- 'Refused calls and inspection change nothing. Deletion strikes the name's row, starting strikes all rows.'
 abbrev pub enter : Call → ℕ → List Row → List Row
-enter (judge c) n rows =
-    cond (isVerdict n) (struck (λ r. listed (brokenKeys c) (r .key)) (taught c (tackShown c) rows)) rows
+enter (judge c) n rows = cond (isVerdict n) (unbroken c (taught c (tackShown c) rows)) rows
 enter (delete name) n rows = cond (eqb n 3) (struck (rowOf name) rows) rows
 enter (inspect name clock) n rows = rows
 enter start n rows = cond (eqb n 7) [] rows

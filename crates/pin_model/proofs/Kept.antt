@@ -6,14 +6,13 @@ use mathlib.Core.Option.{Option, none, some}
 use Prim.Native.Nat.{ℕ, _+_, _*_, _≤_, _<_}
 use native.Mathlib.Omega.{arith}
 use lib.ListN.{getD, set, length-set}
-use borrow.Author.Tests.{ltb-false}
 use Rattle.octets.specs.Octets.{put, same, any}
 use Rattle.octets.proofs.Tests.{is-false}
 use Rattle.octets.proofs.Equal.{same-true, same-eq}
 use Rattle.pin_model.specs.Slots.{used}
 use Rattle.pin_model.specs.Table.{KeyRecord, NameRecord, Table, table, keyIs, pinnedTo, keyRecorded}
 use Rattle.pin_model.specs.Layout.{encodeKey, encodeName, encode}
-use Rattle.pin_model.proofs.Lists.{bit, count, any-count}
+use Rattle.pin_model.proofs.Lists.{bit, count, count-none}
 use Rattle.pin_model.proofs.Places.{passes, freeOr, any-not-at, all-from, all-set, all-used-at, any-set, count-set}
 use Rattle.pin_model.proofs.KeyPlaces.{place-set}
 use Rattle.pin_model.proofs.Fits.{fourBytes, keyFits, nameFits, Fits, NameFits, name-fits, fits-name, key-fits-at}
@@ -110,7 +109,7 @@ module _ (t : Table) (f : Fits t) where
           let z : any (keyIs κ) (used (t .keys)) ≡ false = ap (λ (m : List ℕ). any (keyIs m) (used (t .keys))) (sym (same-true (x .key) κ d)) ∙ fresh in
           omega (
             arith,
-            ltb-false 0 (count (keyIs κ) (used (t .keys))) (sym (any-count (keyIs κ) (used (t .keys))) ∙ z),
+            count-none (keyIs κ) (used (t .keys)) z,
             ap bit d,
             count-set (keyIs κ) (t .keys) k (some x) (rw (f .keySlots) l),
           )

@@ -21,7 +21,7 @@ use Rattle.pin_model.proofs.Places.{freeOr}
 use Rattle.pin_model.proofs.Fits.{nameFits, NameFits, name-fits}
 use Rattle.pin_model.proofs.Cut.{part-then, part-last, head-four, zero-part, number-part}
 use Rattle.pin_model.proofs.NameBytes.{used-name, free-name, present-field, initial-field, end-field, name-field, zeros-field, padding-field, decode-used-name, decode-free-name, decode-end-present, decode-end-absent}
-use Rattle.pin_model.proofs.SoundTable.{SoundName, sound-name}
+use Rattle.pin_model.proofs.SoundName.{SoundName, sound-name}
 
 -- the rules of a used slot, one by one
 record Right (latest : ℕ) (s : List ℕ) : Type 0 where

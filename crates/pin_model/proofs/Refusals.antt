@@ -1,10 +1,9 @@
 -- What a call that isn't refused has passed: every test of its list is false. Assumes nothing.
 use mathlib.Core.Path.{_≡_, refl}
-use mathlib.Core.Bool.{Bool, true, false, cond, not}
+use mathlib.Core.Bool.{Bool, true, false, not}
 use mathlib.Core.List.{List, [], _∷_, _++_}
-use mathlib.Core.Option.{Option, none, some}
-use Prim.Native.Nat.{ℕ, zero, suc, _≤_}
-use native.Mathlib.Omega.{arith}
+use mathlib.Core.Option.{none, some}
+use Prim.Native.Nat.{ℕ, _≤_}
 use lib.Dec.{eqb, ltb}
 use lib.ListN.{length, getD}
 use borrow.Author.Tests.{ltb-false, not-false, eqb-true}
@@ -16,21 +15,7 @@ use Rattle.pin_model.specs.Layout.{areaLength, decode}
 use Rattle.pin_model.specs.Sound.{sound}
 use Rattle.pin_model.specs.Judge.{Connection, partsOf, tackShown, breaksShown, allCorrect, isNone, ofTack, revoked, connectionTests}
 use Rattle.pin_model.specs.Calls.{Call, judge, delete, inspect, start, first, areaTests, refusal}
-
--- the first test is false, and so are the others
-passed-both : (test : Bool) (n : ℕ) (others : Option ℕ) → cond test (some n) others ≡ none → (test ≡ false) × (others ≡ none)
-passed-both true n others e = let z : _≡_ {A = ℕ} 0 1 = cc in absurd (omega arith)
-passed-both false n others e = (refl, e)
-
--- the test at any place of the list
-pub passed : (tests : List (Bool × ℕ)) → first tests ≡ none → (i : ℕ) → getD tests i (false, 0) .0 ≡ false
-passed [] e i = refl
-passed (test ∷ tests) e zero = passed-both (test .0) (test .1) (first tests) e .0
-passed (test ∷ tests) e (suc i) = passed tests (passed-both (test .0) (test .1) (first tests) e .1) i
-
-pub passed-later : (earlier later : List (Bool × ℕ)) → first (earlier ++ later) ≡ none → first later ≡ none
-passed-later [] later e = e
-passed-later (test ∷ earlier) later e = passed-later earlier later (passed-both (test .0) (test .1) (first (earlier ++ later)) e .1)
+use Rattle.pin_model.proofs.First.{passed, passed-later}
 
 -- 10 and 11
 pub record AreaFacts (b : List ℕ) : Type 0 where

@@ -6,9 +6,9 @@ use mathlib.Core.Option.{Option, none, some}
 use mathlib.Core.Logic.{_↔_}
 use Prim.Native.Nat.{ℕ, zero, suc, _+_, _*_, _<_, zero-le, suc-le-suc}
 use native.Mathlib.Omega.{arith}
-use lib.Dec.{eqb, ltb}
+use lib.Dec.{ltb}
 use lib.ListN.{length, getD, drop}
-use borrow.Author.Tests.{eqb-true, ltb-true}
+use borrow.Author.Tests.{eqb-true, eq-eqb, ltb-true, le-leb}
 use Rattle.octets.specs.Octets.{part, all, any}
 use Rattle.octets.specs.Search.{some as someBelow}
 use Rattle.octets.proofs.Tests.{byTest, and-left, and-right}
@@ -17,20 +17,20 @@ use Rattle.octets.proofs.Parts.{part-length}
 use Rattle.octets.proofs.Numbers.{Bytes}
 use Rattle.octets.proofs.Equal.{same-refl, same-eq}
 use Rattle.pin_model.specs.Slots.{used, apart}
-use Rattle.pin_model.specs.Table.{KeyRecord, Table, keyIs, pinnedTo, soundName, soundTable}
+use Rattle.pin_model.specs.Table.{clockLimit, KeyRecord, Table, keyIs, pinnedTo, soundName, soundTable}
 use Rattle.pin_model.specs.Layout.{joined, placeOf, keyAt, encodeKey, decodeKey, encodeName, decodeName, encode, keysIn, namesIn, decode}
 use Rattle.pin_model.specs.Sound.{latestIn, keySlot, nameSlot, isUsed, keyIn, keyNumber, keyShaped, keysShaped, nameShaped, namesShaped, nameKeyed, namesKeyed, refersTo, keyNamed, keysNamed, sound}
 use Rattle.pin_model.proofs.Places.{passes, any-at, all-from}
 use Rattle.pin_model.proofs.Once.{apart-once}
 use Rattle.pin_model.proofs.KeyPlaces.{place-once}
-use Rattle.pin_model.proofs.Fits.{keyFits, Fits}
+use Rattle.pin_model.proofs.Fits.{keyFits, keysWhole, Fits}
 use Rattle.pin_model.proofs.Cut.{part-then, part-last, zero-part, part-bytes, number-part}
 use Rattle.pin_model.proofs.Joined.{joined-split}
 use Rattle.pin_model.proofs.KeyBytes.{decode-used-key, decode-free-key, decode-key-fits, encode-decode-key}
 use Rattle.pin_model.proofs.NameBytes.{decode-used-name, decode-free-name}
 use Rattle.pin_model.proofs.NameRules.{encode-decode-name, decode-name-sound}
 use Rattle.pin_model.proofs.Decoded.{keys-in-length, keys-in-at, names-in-length, names-in-at, keys-distinct, names-distinct}
-use Rattle.pin_model.proofs.SoundTable.{parts-sound, sound-table-fits}
+use Rattle.pin_model.proofs.SoundTable.{sound-table-fits}
 use Rattle.pin_model.proofs.SoundEncode.{sound-encode}
 use Rattle.pin_model.proofs.Rules.{Rules, rules-of}
 
@@ -96,7 +96,7 @@ module _ (b : List ℕ) (r : Rules b) where
   pointed-passes s p = rw (p .there) (same-refl (p .what .key))
 
   -- the rules of the table
-  table-keys : all keyFits (used keys) ≡ true
+  pub table-keys : keysWhole (decode b) ≡ true
   table-keys =
       all-from keyFits keys (λ k l.
       let m : k < 64 = omega (arith, keys-in-length b) in
@@ -137,18 +137,18 @@ module _ (b : List ℕ) (r : Rules b) where
       let m : n < 128 = omega (arith, names-in-length b keys) in
       rw (names-in-at b keys n m) (decode-name-sound keys (latestIn b) (nameSlot b n) (name-slot-shaped n m)))
 
-  table-sound : soundTable (decode b) ≡ true
+  pub table-sound : soundTable (decode b) ≡ true
   table-sound =
-      parts-sound (decode b) (record {
-        latestSound = r .latestSound;
-        keySlots = keys-in-length b;
-        nameSlots = names-in-length b keys;
-        keysApart = keys-apart;
-        namesApart = sym (names-distinct b keys) ∙ r .noNameTwice;
-        namesKeyed = names-keyed;
-        keysNamed = keys-named;
-        namesSound = names-sound;
-      })
+      rw (
+        le-leb (latestIn b) clockLimit (r .latestSound),
+        eq-eqb (length keys) 64 (keys-in-length b),
+        eq-eqb (length (namesIn keys b)) 128 (names-in-length b keys),
+        keys-apart,
+        sym (names-distinct b keys) ∙ r .noNameTwice,
+        names-keyed,
+        keys-named,
+      )
+      names-sound
 
   -- the bytes
   module _ (bytes : Bytes b) where
@@ -189,7 +189,7 @@ module _ (b : List ℕ) (r : Rules b) where
 
 pub record SoundArea (b : List ℕ) : Type 0 where
   pub table : soundTable (decode b) ≡ true
-  pub keys : all (λ k. eqb (length (k .key)) 64) (used (decode b .keys)) ≡ true
+  pub keys : keysWhole (decode b) ≡ true
   pub bytes : encode (decode b) ≡ b
 
 pub sound-decode : (b : List ℕ) → Bytes b → sound b ≡ true → SoundArea b
@@ -204,7 +204,7 @@ sound-fits b bytes h = let a : SoundArea b = sound-decode b bytes h in sound-tab
 pub record AreaOfSound (b : List ℕ) : Type 0 where
   pub table : Table
   pub tableSound : soundTable table ≡ true
-  pub keys : all (λ k. eqb (length (k .key)) 64) (used (table .keys)) ≡ true
+  pub keys : keysWhole table ≡ true
   pub bytes : b ≡ encode table
 
 pub sound-exactly : (b : List ℕ) → Bytes b → (sound b ≡ true) ↔ AreaOfSound b

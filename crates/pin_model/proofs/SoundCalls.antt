@@ -7,9 +7,10 @@ use Prim.Native.Nat.{ℕ, _≤_}
 use native.Mathlib.Omega.{arith}
 use Rattle.octets.proofs.Tests.{byTest}
 use Rattle.host_name.specs.Name.{wellFormed}
-use Rattle.pin_model.specs.Table.{clockLimit, Table, empty, soundTable}
+use Rattle.pin_model.specs.Table.{clockLimit, Table, soundTable}
 use Rattle.pin_model.specs.Judge.{Connection, tackShown, wantsRecord, roomFor, raise, extend, create, learn, settle, judged}
 use Rattle.pin_model.specs.Calls.{Call, judge, delete, inspect, start, first, tableAfter}
+use Rattle.pin_model.proofs.SoundTable.{empty-sound}
 use Rattle.pin_model.proofs.SoundFacts.{SoundFacts, sound-facts, facts-sound}
 use Rattle.pin_model.proofs.SoundSteps.{raise-keeps, extend-keeps, break-keeps, settle-keeps}
 use Rattle.pin_model.proofs.SoundRemoval.{deleted-keeps}
@@ -37,9 +38,6 @@ module _ (c : Connection) {t : Table} (facts : SoundFacts t) (inOrder : t .lates
 pub judged-keeps : (c : Connection) (t : Table) → soundTable t ≡ true → wellFormed (c .name) ≡ true → t .latest ≤ c .clock
     → c .clock ≤ clockLimit → soundTable (judged c t) ≡ true
 judged-keeps c t sound formed inOrder inLimit = facts-sound (judged c t) (judged-facts c (sound-facts t sound) inOrder inLimit formed)
-
-pub empty-sound : soundTable empty ≡ true
-empty-sound = refl
 
 pub tableAfter-keeps : (call : Call) (t : Table) → soundTable t ≡ true → first (laterTests call t) ≡ none → soundTable (tableAfter call t) ≡ true
 tableAfter-keeps (judge c) t sound granted =

@@ -14,8 +14,8 @@ use Rattle.tack_extension.specs.Tack.{publicKey}
 use Rattle.pin_model.specs.Slots.{used, hasFree, changed, placed}
 use Rattle.pin_model.specs.Table.{NameRecord, Table, table, keyIs, nameIs, pinnedTo, active, nameRecorded, keyRecorded, without, soundName}
 use Rattle.pin_model.specs.Judge.{Connection, wantsRecord, roomFor, newName, newKey, keysWith, namesWith, create}
-use Rattle.pin_model.proofs.Lists.{bit, count, Alike, alike-any, alike-placed, alike-replace, count-placed, any-placed, length-changed, length-placed, used-struck, used-rewritten}
-use Rattle.pin_model.proofs.MoreLists.{count-none, count-some, none-implied, any-split, any-freed, count-gone, freed-none, all-changed, all-placed}
+use Rattle.pin_model.proofs.Lists.{bit, count, Alike, alike-any, alike-replace, count-none, count-some, none-implied, any-split}
+use Rattle.pin_model.proofs.Slots.{alike-placed, count-placed, any-placed, length-changed, length-placed, used-struck, used-rewritten, any-freed, count-gone, freed-none, all-changed, all-placed}
 use Rattle.pin_model.proofs.SoundFacts.{SoundFacts}
 use Rattle.pin_model.proofs.SoundRemoval.{without-keeps}
 
@@ -47,7 +47,7 @@ module _ (c : Connection) (tack : List ℕ) {t : Table} (facts : SoundFacts t) w
       wider false b d e = e
 
   -- the names after: the new one, and those that the removal left
-  names-alike : (nameRecorded (c .name) t || hasFree (t .names)) ≡ true
+  pub names-alike : (nameRecorded (c .name) t || hasFree (t .names)) ≡ true
       → Alike (used (namesWith c tack t)) (newName c tack ∷ used (left .names))
   names-alike room = go (nameRecorded (c .name) t) refl room
     where
@@ -119,20 +119,25 @@ module _ (c : Connection) (tack : List ℕ) {t : Table} (facts : SoundFacts t) w
           (λ d. rw d)
       go false e free = any-placed (keyIs k) (newKey tack) (left .keys) free
 
-  pub created-sound : wellFormed (c .name) ≡ true → c .clock ≤ t .latest → wantsRecord c tack t ≡ true → roomFor c tack t ≡ true
+  -- what "no room" is not
+  pub name-room : roomFor c tack t ≡ true → (nameRecorded (c .name) t || hasFree (t .names)) ≡ true
+  name-room room = search and-left
+
+  pub key-room : wantsRecord c tack t ≡ true → roomFor c tack t ≡ true → (keyRecorded key left || hasFree (left .keys)) ≡ true
+  key-room wants room = rw (wanted-key wants) (search and-right)
+
+  created-sound : wellFormed (c .name) ≡ true → c .clock ≤ t .latest → wantsRecord c tack t ≡ true → roomFor c tack t ≡ true
       → SoundFacts (table (t .latest) (keysWith c tack t) (namesWith c tack t))
   created-sound formed inOrder wants room =
-      let nameRoom : (nameRecorded (c .name) t || hasFree (t .names)) ≡ true = search and-left in
-      let keyRoom : (keyRecorded key left || hasFree (left .keys)) ≡ true = rw (wanted-key wants) (search and-right) in
       record {
         latestInLimit = facts .latestInLimit;
         keySlots = keys-long;
         nameSlots = names-long;
-        keyOnce = keys-once keyRoom;
-        nameOnce = names-once nameRoom;
+        keyOnce = keys-once (key-room wants room);
+        nameOnce = names-once (name-room room);
         recordedWhilePinned = λ k.
-            keys-recorded keyRoom k ∙ ap (λ (b : Bool). same key k || b) (leftFacts .recordedWhilePinned k)
-            ∙ sym (alike-any (used (namesWith c tack t)) (newName c tack ∷ used (left .names)) (names-alike nameRoom) (pinnedTo k));
+            keys-recorded (key-room wants room) k ∙ ap (λ (b : Bool). same key k || b) (leftFacts .recordedWhilePinned k)
+            ∙ sym (alike-any (used (namesWith c tack t)) (newName c tack ∷ used (left .names)) (names-alike (name-room room)) (pinnedTo k));
         namesSound = names-sound formed inOrder;
       }
 

@@ -1,16 +1,20 @@
 -- What a sound table is, as facts with names. Assumes nothing.
-use mathlib.Core.Path.{_≡_, sym, _∙_}
+use mathlib.Core.Path.{_≡_, sym, _∙_, ap}
 use mathlib.Core.Bool.{true}
 use mathlib.Core.List.{List}
+use mathlib.Core.Option.{none, some}
 use Prim.Native.Nat.{ℕ, _≤_}
-use lib.ListN.{length}
+use lib.ListN.{length, getD}
 use borrow.Author.Tests.{leb-true, le-leb, eqb-true, eq-eqb}
 use Rattle.octets.specs.Octets.{all, any}
 use Rattle.octets.proofs.Tests.{both-ways, and-left, and-right}
+use Rattle.octets.proofs.Equal.{same-refl}
 use Rattle.pin_model.specs.Slots.{used}
 use Rattle.pin_model.specs.Table.{clockLimit, KeyRecord, NameRecord, Table, keyIs, nameIs, pinnedTo, keyRecorded, soundName, soundTable}
 use Rattle.pin_model.proofs.Lists.{count}
-use Rattle.pin_model.proofs.MoreLists.{apart-once, once-apart, all-found, found-all}
+use Rattle.pin_model.proofs.Places.{passes, any-at}
+use Rattle.pin_model.proofs.Fields.{all-found, found-all}
+use Rattle.pin_model.proofs.Once.{apart-once, once-apart}
 
 pub record SoundFacts (t : Table) : Type 0 where
   pub latestInLimit : t .latest ≤ clockLimit
@@ -57,3 +61,15 @@ facts-sound t facts =
       found-all keyOf (λ k. any (pinnedTo k) (used (t .names))) (used (t .keys)) (λ k e. sym (facts .recordedWhilePinned k) ∙ e),
     )
     (facts .namesSound)
+
+-- a name's key is recorded, and a recorded key has a name
+module _ {t : Table} (facts : SoundFacts t) where
+  pub name-keyed : (n : ℕ) (r : NameRecord) → getD (t .names) n none ≡ some r → keyRecorded (r .key) t ≡ true
+  name-keyed n r e =
+      facts .recordedWhilePinned (r .key)
+      ∙ any-at (pinnedTo (r .key)) (t .names) n (ap (passes (pinnedTo (r .key))) e ∙ same-refl (r .key))
+
+  pub key-named : (k : ℕ) (x : KeyRecord) → getD (t .keys) k none ≡ some x → any (pinnedTo (x .key)) (used (t .names)) ≡ true
+  key-named k x e =
+      sym (facts .recordedWhilePinned (x .key))
+      ∙ any-at (keyIs (x .key)) (t .keys) k (ap (passes (keyIs (x .key))) e ∙ same-refl (x .key))

@@ -1,6 +1,6 @@
 -- The removal of a name's record keeps a table sound, and changes nothing where there is none. Assumes nothing.
-use mathlib.Core.Path.{_≡_, refl, sym, _∙_, ap}
-use mathlib.Core.Bool.{Bool, true, false, not, _&&_}
+use mathlib.Core.Path.{_≡_, sym, _∙_, ap, ap₂}
+use mathlib.Core.Bool.{Bool, true, false, not, _&&_, Bool·not-not}
 use mathlib.Core.List.{List}
 use mathlib.Core.Option.{Option}
 use Prim.Native.Nat.{ℕ}
@@ -8,11 +8,20 @@ use native.Mathlib.Omega.{arith}
 use Rattle.octets.specs.Octets.{any}
 use Rattle.octets.proofs.Tests.{byTest}
 use Rattle.pin_model.specs.Slots.{used, freed}
-use Rattle.pin_model.specs.Table.{KeyRecord, NameRecord, Table, table, keyIs, nameIs, pinnedTo, nameRecorded, keysNamedBy, without, soundName, soundTable}
+use Rattle.pin_model.specs.Table.{KeyRecord, NameRecord, Table, table, keyIs, nameIs, pinnedTo, nameRecorded, keyRecorded, keysNamedBy, without, soundName, soundTable}
 use Rattle.pin_model.specs.Calls.{deleted}
-use Rattle.pin_model.proofs.Lists.{length-freed}
-use Rattle.pin_model.proofs.MoreLists.{any-not, count-freed, any-left, all-freed, freed-none, found-all, any-freed-by}
+use Rattle.pin_model.proofs.Lists.{any-not}
+use Rattle.pin_model.proofs.Slots.{length-freed, count-freed, any-left, all-freed, freed-none}
+use Rattle.pin_model.proofs.Fields.{found-all, any-freed-by}
 use Rattle.pin_model.proofs.SoundFacts.{SoundFacts, sound-facts, facts-sound, keyOf}
+
+-- 'its old key goes if no name is left on it'
+without-linked : (n : List ℕ) {t : Table} → SoundFacts t → (k : List ℕ) → keyRecorded k (without n t) ≡ any (pinnedTo k) (used (without n t .names))
+without-linked n {t} facts k =
+    let names = freed (nameIs n) (t .names) in
+    any-freed-by keyOf (λ j. not (any (pinnedTo j) (used names))) k (t .keys)
+    ∙ ap₂ _&&_ (facts .recordedWhilePinned k) (Bool·not-not (any (pinnedTo k) (used names)))
+    ∙ any-left (pinnedTo k) (nameIs n) (t .names)
 
 pub without-keeps : (n : List ℕ) {t : Table} → SoundFacts t → SoundFacts (without n t)
 without-keeps n {t} facts =
@@ -24,17 +33,9 @@ without-keeps n {t} facts =
       nameSlots = length-freed (nameIs n) (t .names) ∙ facts .nameSlots;
       keyOnce = λ k. omega (arith, count-freed (keyIs k) (λ j. gone (j .key)) (t .keys), facts .keyOnce k);
       nameOnce = λ m. omega (arith, count-freed (nameIs m) (nameIs n) (t .names), facts .nameOnce m);
-      recordedWhilePinned = λ k.
-          any-freed-by keyOf gone k (t .keys) ∙ ap (λ (b : Bool). b && not (gone k)) (facts .recordedWhilePinned k)
-          ∙ narrowed (any (pinnedTo k) (used (t .names))) (any (pinnedTo k) (used names)) (any-left (pinnedTo k) (nameIs n) (t .names));
+      recordedWhilePinned = without-linked n facts;
       namesSound = all-freed (soundName (t .latest)) (nameIs n) (t .names) (facts .namesSound);
     }
-  where
-    narrowed : (wide narrow : Bool) → (narrow ≡ true → wide ≡ true) → (wide && not (not narrow)) ≡ narrow
-    narrowed true true h = refl
-    narrowed true false h = refl
-    narrowed false true h = h refl
-    narrowed false false h = refl
 
 pub without-unrecorded : (n : List ℕ) {t : Table} → SoundFacts t → nameRecorded n t ≡ false → without n t ≡ t
 without-unrecorded n {t} facts e =

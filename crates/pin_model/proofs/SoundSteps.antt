@@ -1,20 +1,18 @@
 -- Steps 1, 2(i), 3 and 4 keep a table sound. Assumes nothing.
 use mathlib.Core.Path.{_≡_, refl, sym, _∙_, ap}
-use mathlib.Core.Bool.{Bool, true, not, _&&_}
+use mathlib.Core.Bool.{Bool, not, _&&_}
 use mathlib.Core.List.{List}
-use mathlib.Core.Option.{Option, none, some}
-use Prim.Native.Nat.{ℕ, _+_, _-_, _≤_, min}
+use Prim.Native.Nat.{ℕ, _≤_}
 use native.Mathlib.Omega.{arith}
-use lib.Dec.{leb}
-use borrow.Author.Tests.{leb-true, le-leb, le-ltb}
-use Rattle.octets.proofs.Tests.{and-left, and-right, and-both}
-use Rattle.host_name.specs.Name.{wellFormed}
+use Rattle.octets.specs.Octets.{any}
 use Rattle.tack_extension.specs.Tack.{publicKey, minGeneration}
 use Rattle.pin_model.specs.Slots.{used}
-use Rattle.pin_model.specs.Table.{thirtyDays, clockLimit, NameRecord, Table, keyIs, nameIs, pinnedTo, soundEnd, soundName}
+use Rattle.pin_model.specs.Table.{clockLimit, NameRecord, Table, keyIs, nameIs, pinnedTo, keyRecorded, soundName}
 use Rattle.pin_model.specs.Judge.{Connection, enabled, brokenKeys, listed, raisedTo, raise, extendedTo, extend, break, settle}
-use Rattle.pin_model.proofs.Lists.{length-freed, length-changed}
-use Rattle.pin_model.proofs.MoreLists.{all-implied, count-freed, all-freed, count-changed, any-changed, all-changed, any-freed-by}
+use Rattle.pin_model.proofs.Lists.{all-implied}
+use Rattle.pin_model.proofs.Slots.{length-freed, length-changed, count-freed, all-freed, count-changed, any-changed, all-changed}
+use Rattle.pin_model.proofs.Fields.{any-freed-by}
+use Rattle.pin_model.proofs.SoundName.{name-later, extended-sound}
 use Rattle.pin_model.proofs.SoundFacts.{SoundFacts, keyOf, pinOf}
 
 -- 1.
@@ -32,16 +30,7 @@ raise-keeps tack {t} facts =
       namesSound = facts .namesSound;
     }
 
--- 2(i). A record that is sound at the clock stays so: its new end lies between its initial and the clock and thirty days.
-extended-sound : (clock : ℕ) (r : NameRecord) → soundName clock r ≡ true → soundName clock (extendedTo clock r) ≡ true
-extended-sound clock r sound =
-    let started : r .initial ≤ clock = leb-true (r .initial) clock (search (and-left, and-right)) in
-    let end = clock + min thirtyDays (clock - r .initial) in
-    rw (le-ltb clock (r .initial) started)
-    (and-both (wellFormed (r .name)) (leb (r .initial) clock && (leb (r .initial) end && leb end (clock + thirtyDays))) (search and-left)
-    (and-both (leb (r .initial) clock) (leb (r .initial) end && leb end (clock + thirtyDays)) (le-leb (r .initial) clock started)
-    (and-both (leb (r .initial) end) (leb end (clock + thirtyDays)) (le-leb (r .initial) end (omega arith)) (le-leb end (clock + thirtyDays) (omega arith)))))
-
+-- 2(i).
 pub extend-keeps : (c : Connection) (tack : List ℕ) {t : Table} → t .latest ≡ c .clock → SoundFacts t → SoundFacts (extend c tack t)
 extend-keeps c tack {t} settled facts =
     let test : NameRecord → Bool = λ r. enabled c && (nameIs (c .name) r && pinnedTo (publicKey tack) r) in
@@ -58,7 +47,13 @@ extend-keeps c tack {t} settled facts =
           (all-changed (soundName (c .clock)) test extended (extended-sound (c .clock)) (t .names) (rw settled at (facts .namesSound)));
     }
 
--- 3.
+-- 3. A key goes with all its names.
+break-linked : (c : Connection) {t : Table} → SoundFacts t → (k : List ℕ) → keyRecorded k (break c t) ≡ any (pinnedTo k) (used (break c t .names))
+break-linked c {t} facts k =
+    any-freed-by keyOf (listed (brokenKeys c)) k (t .keys)
+    ∙ ap (λ (b : Bool). b && not (listed (brokenKeys c) k)) (facts .recordedWhilePinned k)
+    ∙ sym (any-freed-by pinOf (listed (brokenKeys c)) k (t .names))
+
 pub break-keeps : (c : Connection) {t : Table} → SoundFacts t → SoundFacts (break c t)
 break-keeps c {t} facts =
     let gone = listed (brokenKeys c) in
@@ -68,26 +63,11 @@ break-keeps c {t} facts =
       nameSlots = length-freed (λ r. gone (r .key)) (t .names) ∙ facts .nameSlots;
       keyOnce = λ k. omega (arith, count-freed (keyIs k) (λ j. gone (j .key)) (t .keys), facts .keyOnce k);
       nameOnce = λ n. omega (arith, count-freed (nameIs n) (λ r. gone (r .key)) (t .names), facts .nameOnce n);
-      recordedWhilePinned = λ k.
-          any-freed-by keyOf gone k (t .keys) ∙ ap (λ (b : Bool). b && not (gone k)) (facts .recordedWhilePinned k)
-          ∙ sym (any-freed-by pinOf gone k (t .names));
+      recordedWhilePinned = break-linked c facts;
       namesSound = all-freed (soundName (t .latest)) (λ r. gone (r .key)) (t .names) (facts .namesSound);
     }
 
--- 4. What is sound stays so at a later clock.
-end-later : (earlier later initial : ℕ) (end : Option ℕ) → earlier ≤ later → soundEnd earlier initial end ≡ true → soundEnd later initial end ≡ true
-end-later earlier later initial none le sound = refl
-end-later earlier later initial (some end) le sound =
-    and-both (leb initial end) (leb end (later + thirtyDays)) (search and-left)
-    (le-leb end (later + thirtyDays) (omega (arith, leb-true end (earlier + thirtyDays) (search and-right))))
-
-name-later : (earlier later : ℕ) → earlier ≤ later → (r : NameRecord) → soundName earlier r ≡ true → soundName later r ≡ true
-name-later earlier later le r sound =
-    and-both (wellFormed (r .name)) (leb (r .initial) later && soundEnd later (r .initial) (r .end)) (search and-left)
-    (and-both (leb (r .initial) later) (soundEnd later (r .initial) (r .end))
-    (le-leb (r .initial) later (omega (arith, leb-true (r .initial) earlier (search (and-left, and-right)))))
-    (end-later earlier later (r .initial) (r .end) le (search (and-left, and-right))))
-
+-- 4.
 pub settle-keeps : (c : Connection) {t : Table} → t .latest ≤ c .clock → c .clock ≤ clockLimit → SoundFacts t → SoundFacts (settle c t)
 settle-keeps c {t} inOrder inLimit facts = record {
   latestInLimit = inLimit;

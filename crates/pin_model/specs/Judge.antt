@@ -3,7 +3,7 @@ use mathlib.Core.Bool.{Bool, true, false, cond, not, _&&_, _||_}
 use mathlib.Core.List.{List, [], _∷_, map}
 use mathlib.Core.Option.{Option, none, some}
 use Prim.Native.Nat.{ℕ, _+_, _-_, _/_, _%_, min, max}
-use lib.Dec.{eqb, leb, ltb}
+use lib.Dec.{eqb, ltb}
 use Rattle.octets.specs.Octets.{same, any}
 use Rattle.host_name.specs.Name.{wellFormed}
 use Rattle.tack_extension.specs.Extension.{Parts, parts, parse, tackOf, breaksOf}

@@ -1,0 +1,48 @@
+//! Repeated measurements: the median, and how far they spread.
+
+use std::fmt;
+use std::time::Instant;
+
+/// The time of one call in microseconds, least first, one number for each repeat.
+pub struct Timing(Vec<f64>);
+
+impl Timing {
+    pub fn median(&self) -> f64 {
+        self.0[self.0.len() / 2]
+    }
+
+    pub fn least(&self) -> f64 {
+        self.0[0]
+    }
+
+    pub fn most(&self) -> f64 {
+        self.0[self.0.len() - 1]
+    }
+}
+
+impl fmt::Display for Timing {
+    fn fmt(&self, f: &mut fmt::Formatter<'_>) -> fmt::Result {
+        let (median, least, most) = (self.median(), self.least(), self.most());
+        f.pad(&format!("{median:.2} ({least:.2} to {most:.2})"))
+    }
+}
+
+/// Times each job, which makes so many calls, in turn and again, so that a slow moment of the machine meets all of them.
+pub fn measure<const N: usize>(
+    repeats: usize,
+    calls: usize,
+    mut jobs: [&mut dyn FnMut(); N],
+) -> [Timing; N] {
+    let mut times = [(); N].map(|_| Vec::new());
+    for _ in 0..repeats {
+        for (job, times) in jobs.iter_mut().zip(&mut times) {
+            let began = Instant::now();
+            job();
+            times.push(began.elapsed().as_secs_f64() * 1e6 / calls as f64);
+        }
+    }
+    times.map(|mut times| {
+        times.sort_by(f64::total_cmp);
+        Timing(times)
+    })
+}

@@ -1,0 +1,211 @@
+//! A small gateway that keeps one table of pins for two tenants, a clinic and a school, and says what each call gave.
+
+use std::fmt;
+use tack::extension;
+use tack::table::{Connection, Deletion, PinTable, Refusal, Verdict};
+
+/// The SHA-256 of every server's SubjectPublicKeyInfo in these stories.
+const HASH: [u8; 32] = [0x77; 32];
+/// The verifier's part is played: each signature passes.
+const SIGNATURE: [u8; 64] = [0x55; 64];
+
+/// What a server shows. A key of these stories is one byte, 64 times.
+enum Shown {
+    Nothing,
+    Tack {
+        key: u8,
+        min_generation: u8,
+        generation: u8,
+    },
+    Break {
+        key: u8,
+    },
+}
+
+impl Shown {
+    /// The TACK extension, if one comes: a tack that does not expire, activation enabled, or a break signature.
+    fn extension(&self) -> Option<Vec<u8>> {
+        let (tack, breaks) = match *self {
+            Shown::Nothing => return None,
+            Shown::Break { key } => (vec![], [[key; 64], SIGNATURE].concat()),
+            Shown::Tack {
+                key,
+                min_generation,
+                generation,
+            } => {
+                let generations = [min_generation, generation];
+                let parts: [&[u8]; 5] = [&[key; 64], &generations, &[0xff; 4], &HASH, &SIGNATURE];
+                (parts.concat(), vec![])
+            }
+        };
+        let mut bytes = vec![0; extension::MAX_LENGTH];
+        let written = extension::write(&tack, &breaks, 1, &mut bytes).ok()?;
+        bytes.truncate(written);
+        Some(bytes)
+    }
+}
+
+impl fmt::Display for Shown {
+    fn fmt(&self, f: &mut fmt::Formatter<'_>) -> fmt::Result {
+        match self {
+            Shown::Nothing => f.write_str("no extension"),
+            Shown::Tack {
+                key,
+                min_generation,
+                generation,
+            } => write!(
+                f,
+                "tack of key {key:02x}, generation {generation}, at least {min_generation}"
+            ),
+            Shown::Break { key } => write!(f, "break signature of key {key:02x}"),
+        }
+    }
+}
+
+/// A call's number and alert, and what they mean.
+type Answer = (u8, u8, String);
+
+/// The table of pins, and a line for each call.
+#[derive(Default)]
+struct Gateway {
+    pins: PinTable,
+    report: String,
+}
+
+impl Gateway {
+    fn say(&mut self, clock: u64, name: &str, call: &str, (number, alert, words): Answer) {
+        let line =
+            format!("{clock:>5}  {name:<22}  {call:<40}  {number:>6}  {alert:>5}  {words}\n");
+        self.report.push_str(&line);
+    }
+
+    /// A finished connection.
+    fn connect(&mut self, clock: u64, name: &str, shown: &Shown) {
+        let extension = shown.extension();
+        let judged = self.pins.judge(&Connection {
+            clock,
+            name: name.as_bytes(),
+            extension: extension.as_deref(),
+            spki_sha256: &HASH,
+            handshake_finished: true,
+            key_is_point: true,
+            signature_correct: true,
+            breaks_correct: 0xff,
+        });
+        let answer = match judged {
+            Ok(judgement) => answer(judgement.verdict),
+            Err(refusal) => refused(refusal),
+        };
+        self.say(clock, name, &shown.to_string(), answer);
+    }
+
+    fn inspect(&mut self, clock: u64, name: &str) {
+        let answer = match self.pins.inspect(name.as_bytes(), clock) {
+            Ok(None) => (4, 0, "not recorded".to_string()),
+            Ok(Some(record)) => {
+                let made = format!("made at {}, floor {}", record.initial, record.floor);
+                match record.end.zip(record.minutes_left) {
+                    None => (5, 0, format!("{made}, not activated")),
+                    Some((end, left)) => (6, 0, format!("{made}, end {end}, minutes left {left}")),
+                }
+            }
+            Err(refusal) => refused(refusal),
+        };
+        self.say(clock, name, "(inspection)", answer);
+    }
+
+    fn delete(&mut self, clock: u64, name: &str) {
+        let answer = match self.pins.delete(name.as_bytes()) {
+            Ok(Deletion::Deleted) => (3, 0, "deleted".to_string()),
+            Ok(Deletion::NotRecorded) => (4, 0, "not recorded".to_string()),
+            Err(refusal) => refused(refusal),
+        };
+        self.say(clock, name, "(deletion)", answer);
+    }
+}
+
+fn answer(verdict: Verdict) -> Answer {
+    let word = match verdict {
+        Verdict::Unpinned => "unpinned",
+        Verdict::Confirmed => "confirmed",
+        Verdict::Contradicted => "contradicted",
+    };
+    (verdict.number(), verdict.alert(), word.to_string())
+}
+
+fn refused(refusal: Refusal) -> Answer {
+    (
+        refusal.number(),
+        refusal.alert(),
+        format!("refused: {refusal}"),
+    )
+}
+
+/// A pin is made, activated, contradicted, and ends.
+fn clinic(gateway: &mut Gateway) {
+    let name = "desk.clinic.example";
+    let ours = Shown::Tack {
+        key: 0x11,
+        min_generation: 3,
+        generation: 3,
+    };
+    let another = Shown::Tack {
+        key: 0x22,
+        min_generation: 0,
+        generation: 0,
+    };
+    gateway.connect(1000, name, &ours);
+    gateway.inspect(1000, name);
+    gateway.connect(1600, name, &ours);
+    gateway.inspect(1600, name);
+    gateway.connect(1599, name, &ours);
+    gateway.connect(2000, name, &another);
+    gateway.connect(2199, name, &Shown::Nothing);
+    gateway.connect(2200, name, &Shown::Nothing);
+    gateway.inspect(2300, name);
+    gateway.delete(2300, name);
+}
+
+/// Two names under one key: a generation is revoked, then the key itself.
+fn school(gateway: &mut Gateway) {
+    let (desk, library) = ("desk.school.example", "library.school.example");
+    let tack = |min_generation, generation| Shown::Tack {
+        key: 0x33,
+        min_generation,
+        generation,
+    };
+    for name in [desk, library] {
+        gateway.connect(3000, name, &tack(3, 3));
+    }
+    for name in [desk, library] {
+        gateway.connect(3600, name, &tack(3, 3));
+    }
+    gateway.connect(3700, desk, &tack(4, 4));
+    gateway.connect(3700, library, &tack(3, 3));
+    gateway.connect(3700, library, &tack(4, 3));
+    gateway.connect(3800, desk, &Shown::Break { key: 0x33 });
+    gateway.connect(3800, library, &Shown::Nothing);
+    for name in [desk, library] {
+        gateway.inspect(3800, name);
+    }
+}
+
+/// Both stories, on one table.
+fn report() -> String {
+    let mut gateway = Gateway::default();
+    clinic(&mut gateway);
+    school(&mut gateway);
+    format!(
+        "{:>5}  {:<22}  {:<40}  number  alert\n{}",
+        "clock", "name", "shown", gateway.report
+    )
+}
+
+fn main() {
+    print!("{}", report());
+}
+
+#[test]
+fn as_stored() {
+    assert_eq!(report(), include_str!("gateway.expected"));
+}

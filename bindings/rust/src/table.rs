@@ -1,0 +1,250 @@
+//! The pin table: connections judged, names deleted and inspected.
+//!
+//! A clinic's server shows a tack. The first connection makes a pin, the next one activates it for as long as it has stood,
+//! and until it ends a server without the key is contradicted:
+//!
+//! ```
+//! use tack::extension;
+//! use tack::table::{Connection, PinTable, Refusal, Verdict};
+//!
+//! /// An extension with one tack of generation 3 that does not expire, activation enabled.
+//! fn showing(key: &[u8; 64], target_hash: &[u8; 32]) -> Vec<u8> {
+//!     let signature = [0x55; 64];
+//!     let tack = [&key[..], &[3, 3], &[0xff; 4], target_hash, &signature].concat();
+//!     let mut bytes = vec![0; 4 + tack.len()];
+//!     extension::write(&tack, &[], 1, &mut bytes).expect("its parts have the right lengths");
+//!     bytes
+//! }
+//!
+//! let hash = [0x77; 32];
+//! let (ours, another) = (showing(&[0x11; 64], &hash), showing(&[0x22; 64], &hash));
+//! let first = Connection {
+//!     clock: 1000,
+//!     name: b"desk.clinic.example",
+//!     extension: Some(&ours),
+//!     spki_sha256: &hash,
+//!     handshake_finished: true,
+//!     key_is_point: true,
+//!     signature_correct: true,
+//!     breaks_correct: 0,
+//! };
+//! let mut pins = PinTable::new();
+//!
+//! // The pin is made, and stands inactive.
+//! assert_eq!(pins.judge(&first)?.verdict, Verdict::Unpinned);
+//!
+//! // After 600 minutes it is activated for 600 more.
+//! let again = Connection { clock: 1600, ..first };
+//! assert_eq!(pins.judge(&again)?.verdict, Verdict::Confirmed);
+//! let record = pins.inspect(first.name, 1600)?.expect("it is recorded");
+//! assert_eq!((record.initial, record.end, record.minutes_left), (1000, Some(2200), Some(600)));
+//!
+//! // Another key, or none at all, contradicts it: the gateway sends alert 49, access_denied.
+//! let impostor = Connection { clock: 2000, extension: Some(&another), ..first };
+//! assert_eq!(pins.judge(&impostor)?.verdict, Verdict::Contradicted);
+//! let silent = Connection { clock: 2199, extension: None, ..first };
+//! assert_eq!(pins.judge(&silent)?.verdict.alert(), 49);
+//!
+//! // At its end a pin is no longer active.
+//! assert_eq!(pins.judge(&Connection { clock: 2200, ..silent })?.verdict, Verdict::Unpinned);
+//! # Ok::<(), Refusal>(())
+//! ```
+
+mod answer;
+mod connection;
+mod refusal;
+
+pub use answer::{Deletion, Inspection, Judgement, Verdict};
+pub use connection::Connection;
+pub use refusal::Refusal;
+
+use crate::raw;
+use std::fmt;
+
+/// The bytes of a pin table.
+pub const AREA_LENGTH: usize = 39_432;
+
+/// Pins of up to 128 names under up to 64 keys.
+///
+/// A `PinTable` is always sound, so [`Refusal::AreaLength`] and [`Refusal::Damaged`] come from
+/// [`from_bytes`](PinTable::from_bytes) alone.
+///
+/// A school has two names under one key. It revokes a generation, and later the key itself, by a break signature:
+///
+/// ```
+/// # use tack::extension;
+/// # use tack::table::{Connection, PinTable, Refusal, Verdict};
+/// /// An extension with the given tack and break signatures, activation enabled.
+/// fn extension(tack: &[u8], breaks: &[u8]) -> Vec<u8> {
+///     let mut bytes = vec![0; 4 + tack.len() + breaks.len()];
+///     extension::write(tack, breaks, 1, &mut bytes).expect("its parts have the right lengths");
+///     bytes
+/// }
+///
+/// let (key, hash, signature) = ([0x11; 64], [0x77; 32], [0x55; 64]);
+/// let tack = |min_generation: u8, generation: u8| {
+///     [&key[..], &[min_generation, generation], &[0xff; 4], &hash, &signature].concat()
+/// };
+/// let third = extension(&tack(3, 3), &[]);
+/// let desk = Connection {
+///     clock: 1000,
+///     name: b"desk.school.example",
+///     extension: Some(&third),
+///     spki_sha256: &hash,
+///     handshake_finished: true,
+///     key_is_point: true,
+///     signature_correct: true,
+///     breaks_correct: 0b1,
+/// };
+/// let library = Connection { name: b"library.school.example", ..desk };
+/// let mut pins = PinTable::new();
+/// pins.judge(&desk)?;
+/// pins.judge(&library)?;
+///
+/// // Generation 3 is the least that the school stands by, so a tack of generation 2 is refused at both names.
+/// let second = extension(&tack(2, 2), &[]);
+/// for name in [desk.name, library.name] {
+///     let refusal = pins.judge(&Connection { name, extension: Some(&second), ..desk }).unwrap_err();
+///     assert_eq!(refusal, Refusal::GenerationRevoked);
+///     assert_eq!((refusal.number(), refusal.alert()), (22, 44));
+/// }
+///
+/// // The break signature, shown at one name, takes the key's pins at both.
+/// let broken = extension(&[], &[key, signature].concat());
+/// let judgement = pins.judge(&Connection { clock: 1600, extension: Some(&broken), ..desk })?;
+/// assert_eq!(judgement.verdict, Verdict::Unpinned);
+/// for name in [desk.name, library.name] {
+///     assert_eq!(pins.inspect(name, 1600)?, None);
+/// }
+/// # Ok::<(), Refusal>(())
+/// ```
+#[derive(Clone, PartialEq, Eq)]
+pub struct PinTable {
+    area: Box<[u8; AREA_LENGTH]>,
+}
+
+impl PinTable {
+    /// An empty table.
+    pub fn new() -> PinTable {
+        let mut table = PinTable {
+            area: Box::new([0; AREA_LENGTH]),
+        };
+        table.start();
+        table
+    }
+
+    /// A table from bytes that [`PinTable::as_bytes`] gave, or from any others: 10 and 11 are the refusals.
+    ///
+    /// ```
+    /// use tack::table::{PinTable, Refusal, AREA_LENGTH};
+    ///
+    /// let mut bytes = PinTable::new().as_bytes().to_vec();
+    /// assert!(PinTable::from_bytes(&bytes).is_ok());
+    /// assert_eq!(PinTable::from_bytes(&bytes[1..]), Err(Refusal::AreaLength));
+    /// bytes[AREA_LENGTH - 1] = 1;
+    /// assert_eq!(PinTable::from_bytes(&bytes), Err(Refusal::Damaged));
+    /// ```
+    pub fn from_bytes(bytes: &[u8]) -> Result<PinTable, Refusal> {
+        // Any name would do: inspection looks at the table first.
+        let number = raw::inspect(bytes, b"a", 0).number;
+        if number >= 10 {
+            return Err(refusal(number));
+        }
+        match Box::try_from(bytes.to_vec()) {
+            Ok(area) => Ok(PinTable { area }),
+            Err(_) => Err(Refusal::AreaLength),
+        }
+    }
+
+    /// The table's bytes, to be kept.
+    pub fn as_bytes(&self) -> &[u8; AREA_LENGTH] {
+        &self.area
+    }
+
+    /// Judges one finished connection and brings the table up to date.
+    pub fn judge(&mut self, connection: &Connection) -> Result<Judgement, Refusal> {
+        let answer = raw::judge(&mut self.area[..], &arguments(connection));
+        let verdict = match answer.number {
+            0 => Verdict::Unpinned,
+            1 => Verdict::Confirmed,
+            2 => Verdict::Contradicted,
+            number => return Err(refusal(number)),
+        };
+        Ok(Judgement {
+            verdict,
+            no_room: answer.no_room,
+        })
+    }
+
+    /// Removes a name's record, and its key if no name is left on it; 12 is the only refusal.
+    ///
+    /// ```
+    /// use tack::table::{Deletion, PinTable, Refusal};
+    ///
+    /// let mut pins = PinTable::new();
+    /// assert_eq!(pins.delete(b"desk.example"), Ok(Deletion::NotRecorded));
+    /// assert_eq!(pins.delete(b"desk.example."), Err(Refusal::NameMalformed));
+    /// ```
+    pub fn delete(&mut self, name: &[u8]) -> Result<Deletion, Refusal> {
+        match raw::delete(&mut self.area[..], name).number {
+            3 => Ok(Deletion::Deleted),
+            4 => Ok(Deletion::NotRecorded),
+            number => Err(refusal(number)),
+        }
+    }
+
+    /// Looks at a name's record; 12 and 13 are the refusals. The clock may lie before that of the latest connection.
+    pub fn inspect(&self, name: &[u8], clock: u64) -> Result<Option<Inspection>, Refusal> {
+        let answer = raw::inspect(&self.area[..], name, clock);
+        let has_end = match answer.number {
+            4 => return Ok(None),
+            5 => false,
+            6 => true,
+            number => return Err(refusal(number)),
+        };
+        Ok(Some(Inspection {
+            floor: answer.floor,
+            initial: answer.initial,
+            end: has_end.then_some(answer.end),
+            minutes_left: has_end.then_some(answer.minutes_left),
+        }))
+    }
+
+    /// Empties the table.
+    pub fn start(&mut self) {
+        // The only refusal is that of another length.
+        raw::start(&mut self.area[..]);
+    }
+}
+
+impl Default for PinTable {
+    fn default() -> PinTable {
+        PinTable::new()
+    }
+}
+
+/// Without the bytes, which nobody would read.
+impl fmt::Debug for PinTable {
+    fn fmt(&self, f: &mut fmt::Formatter<'_>) -> fmt::Result {
+        f.debug_struct("PinTable").finish_non_exhaustive()
+    }
+}
+
+fn arguments<'a>(connection: &Connection<'a>) -> raw::Connection<'a> {
+    raw::Connection {
+        clock: connection.clock,
+        name: connection.name,
+        extension_came: connection.extension.is_some(),
+        extension: connection.extension.unwrap_or(&[]),
+        spki_sha256: connection.spki_sha256,
+        handshake_finished: connection.handshake_finished,
+        key_is_point: connection.key_is_point,
+        signature_correct: connection.signature_correct,
+        breaks_correct: connection.breaks_correct,
+    }
+}
+
+/// The refusal of a number that is none of the call's own.
+fn refusal(number: u8) -> Refusal {
+    Refusal::of(number).unwrap_or_else(|| unreachable!("the library answered {number}"))
+}

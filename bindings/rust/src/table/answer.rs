@@ -1,0 +1,59 @@
+//! What a call that was not refused is answered with.
+
+/// What the table says of a connection.
+#[derive(Debug, Clone, Copy, PartialEq, Eq, Hash)]
+pub enum Verdict {
+    /// 0: the name has no active pin.
+    Unpinned,
+    /// 1: the server showed the tack of the name's active pin.
+    Confirmed,
+    /// 2: the name has an active pin, and the server did not show its key.
+    Contradicted,
+}
+
+impl Verdict {
+    /// The verdict's number.
+    pub fn number(self) -> u8 {
+        self as u8
+    }
+
+    /// The TLS alert that goes with it: access_denied for a contradicted connection, or 0 for none.
+    pub fn alert(self) -> u8 {
+        match self {
+            Verdict::Contradicted => 49,
+            _ => 0,
+        }
+    }
+}
+
+/// A verdict, and whether the table had room.
+#[derive(Debug, Clone, Copy, PartialEq, Eq, Hash)]
+pub struct Judgement {
+    /// What the table says of the connection.
+    pub verdict: Verdict,
+    /// A pin was due and the table had no slot for its name or its key. Nothing was pinned, and the verdict stands all the
+    /// same: a full table refuses no connection.
+    pub no_room: bool,
+}
+
+/// Whether a deletion found its name.
+#[derive(Debug, Clone, Copy, PartialEq, Eq, Hash)]
+pub enum Deletion {
+    /// 3: the name's record is gone, and so is its key if no name is left on it.
+    Deleted,
+    /// 4: the name had no record.
+    NotRecorded,
+}
+
+/// A name's record, and the floor of the key that it is pinned to.
+#[derive(Debug, Clone, Copy, PartialEq, Eq, Hash)]
+pub struct Inspection {
+    /// The highest min_generation seen from the key; generations below it are revoked.
+    pub floor: u8,
+    /// When the record was made, in minutes since 1970.
+    pub initial: u32,
+    /// When the pin ends or ended, in minutes since 1970; none for a pin that was never activated.
+    pub end: Option<u32>,
+    /// The end minus the given clock: 0 at the end, where the pin is no longer active, and negative after it.
+    pub minutes_left: Option<i64>,
+}

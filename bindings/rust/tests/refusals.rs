@@ -1,0 +1,100 @@
+//! Every refusal of the judge through the safe crate: its number, its alert, and a table that stays as it was.
+
+use tack::extension;
+use tack::raw;
+use tack::table::{Connection, PinTable, Refusal};
+
+const HASH: [u8; 32] = [0x77; 32];
+
+/// A tack of one key and a break signature of another, activation enabled.
+fn shown(min_generation: u8, generation: u8, expiration: u32) -> Vec<u8> {
+    let generations = [min_generation, generation];
+    let expiration = expiration.to_be_bytes();
+    let parts: [&[u8]; 5] = [&[0x11; 64], &generations, &expiration, &HASH, &[0x55; 64]];
+    let mut bytes = vec![0; 298];
+    let written = extension::write(&parts.concat(), &[0x22; 128], 1, &mut bytes);
+    assert_eq!(written, Ok(298));
+    bytes
+}
+
+/// A connection that passes at 1000 and makes a pin with floor 3.
+fn good(extension: &[u8]) -> Connection<'_> {
+    Connection {
+        clock: 1000,
+        name: b"a.b",
+        extension: Some(extension),
+        spki_sha256: &HASH,
+        handshake_finished: true,
+        key_is_point: true,
+        signature_correct: true,
+        breaks_correct: 1,
+    }
+}
+
+#[test]
+fn each_refusal_of_the_judge() {
+    let (third, inconsistent) = (shown(3, 3, u32::MAX), shown(3, 2, u32::MAX));
+    let (second, expiring) = (shown(2, 2, u32::MAX), shown(3, 3, 1000));
+    let good = good(&third);
+    let mut pins = PinTable::new();
+    pins.judge(&good).expect("a verdict");
+    let before = pins.clone();
+
+    #[rustfmt::skip]
+    let refused = [
+        (12, Connection { name: b"A.b", ..good }),
+        (13, Connection { clock: 4_294_924_096, ..good }),
+        (14, Connection { clock: 999, ..good }),
+        (15, Connection { handshake_finished: false, ..good }),
+        (16, Connection { extension: Some(&[]), ..good }),
+        (17, Connection { breaks_correct: 0xfe, ..good }),
+        (18, Connection { key_is_point: false, ..good }),
+        (19, Connection { extension: Some(&inconsistent), ..good }),
+        (20, Connection { spki_sha256: &HASH[1..], ..good }),
+        (21, Connection { signature_correct: false, ..good }),
+        (22, Connection { extension: Some(&second), ..good }),
+        (23, Connection { clock: 1001, extension: Some(&expiring), ..good }),
+    ];
+    for (number, connection) in refused {
+        let refusal = pins.judge(&connection).expect_err("it is refused");
+        assert_eq!(Some(refusal), Refusal::of(number));
+        assert_eq!(
+            refusal.alert(),
+            library_alert(&pins, &connection),
+            "{refusal}"
+        );
+        assert!(pins == before, "{refusal}: the table changed");
+    }
+}
+
+/// The alert that the library itself gives.
+fn library_alert(pins: &PinTable, connection: &Connection) -> u8 {
+    let arguments = raw::Connection {
+        clock: connection.clock,
+        name: connection.name,
+        extension_came: connection.extension.is_some(),
+        extension: connection.extension.unwrap_or(&[]),
+        spki_sha256: connection.spki_sha256,
+        handshake_finished: connection.handshake_finished,
+        key_is_point: connection.key_is_point,
+        signature_correct: connection.signature_correct,
+        breaks_correct: connection.breaks_correct,
+    };
+    raw::judge(&mut pins.as_bytes().clone(), &arguments).alert
+}
+
+#[test]
+fn a_kept_table_goes_on() {
+    let third = shown(3, 3, u32::MAX);
+    let mut pins = PinTable::new();
+    pins.judge(&good(&third)).expect("a verdict");
+    let kept = pins.as_bytes().to_vec();
+    let again = PinTable::from_bytes(&kept).expect("a sound table");
+    assert!(again == pins);
+    assert_eq!(
+        again.inspect(b"a.b", 4_294_924_096),
+        Err(Refusal::ClockAboveLimit)
+    );
+    pins.start();
+    assert!(pins == PinTable::new());
+}

@@ -1,0 +1,183 @@
+//! Whole lists of calls from an empty table.
+
+use crate::area::{Area, KEY_SLOTS, LENGTH, LIMIT, NAME_SLOTS};
+use crate::both;
+use crate::call::{Answer, Call, Connection};
+use crate::choices::{Choices, Mix};
+use crate::pool;
+use crate::random::Random;
+use crate::tally::Tally;
+use tack::extension::Extension;
+
+/// What the lists have met so far.
+#[derive(Default)]
+pub struct Lists {
+    numbers: Tally,
+    room: Room,
+}
+
+/// How often a pin found a full table.
+#[derive(Default)]
+struct Room {
+    names_full: u64,
+    keys_full: u64,
+    /// The name had a record, whose key stays because another name is on it.
+    old_key_stays: u64,
+    /// The name's old key made room for the new one.
+    old_key_goes: u64,
+}
+
+impl Room {
+    fn add(&mut self, before: &Area, connection: &Connection, answer: &Answer, after: &Area) {
+        let recorded = before.find_name(&connection.name).is_some();
+        if answer.no_room {
+            match recorded {
+                true => self.old_key_stays += 1,
+                false if before.used_names().len() == NAME_SLOTS => self.names_full += 1,
+                false => self.keys_full += 1,
+            }
+        } else if recorded
+            && before.used_keys().len() == KEY_SLOTS
+            && is_new_key(before, connection, after)
+        {
+            self.old_key_goes += 1;
+        }
+    }
+
+    fn report(&self) -> Result<(), String> {
+        println!(
+            "no room: {} for a name, {} for a key, {} for a key since the old one stays; {} times the old key made room",
+            self.names_full, self.keys_full, self.old_key_stays, self.old_key_goes
+        );
+        let all = [
+            self.names_full,
+            self.keys_full,
+            self.old_key_stays,
+            self.old_key_goes,
+        ];
+        match all.contains(&0) {
+            true => Err("a kind of room never came".to_string()),
+            false => Ok(()),
+        }
+    }
+}
+
+/// Whether the connection's tack has a key that was recorded by it.
+fn is_new_key(before: &Area, connection: &Connection, after: &Area) -> bool {
+    let extension = Extension::read(&connection.extension).ok();
+    let key = extension.and_then(|extension| extension.tack()?.public_key().try_into().ok());
+    key.is_some_and(|key| before.find_key(&key).is_none() && after.find_key(&key).is_some())
+}
+
+impl Lists {
+    /// One list, of few names and keys, which meet, or of more than there are slots.
+    pub fn list(&mut self, random: &mut Random) -> Result<u64, String> {
+        let (mix, length) = mix(random);
+        let mut area = Area::empty();
+        let mut calls = 0;
+        while calls < length {
+            let call = Choices::new(&mix, &area, random).call();
+            if random.one_in(25) {
+                self.aside(&call, &area, random)?;
+                calls += 1;
+            }
+            let before = area.clone();
+            let answer = self.call(&mut area.bytes, &call)?;
+            if let Call::Judge(connection) = &call {
+                self.room.add(&before, connection, &answer, &area);
+            }
+            calls += 1;
+        }
+        Ok(calls)
+    }
+
+    fn call(&mut self, table: &mut [u8], call: &Call) -> Result<Answer, String> {
+        let answer = both::call(table, call)?;
+        self.numbers.add(answer.number);
+        Ok(answer)
+    }
+
+    /// The call on a copy of another length, or with a few bytes changed.
+    fn aside(&mut self, call: &Call, area: &Area, random: &mut Random) -> Result<(), String> {
+        let mut bytes = area.bytes.clone();
+        if random.one_in(3) {
+            let any = random.below(2 * LENGTH);
+            bytes.resize(*random.pick(&[0, LENGTH - 1, LENGTH + 1, any]), 0);
+        } else {
+            for _ in 0..1 + random.below(2) {
+                let at = place(area, random);
+                bytes[at] = *random.pick(&[0, 1, 2, 255, bytes[at] ^ 1, bytes[at].wrapping_add(1)]);
+            }
+        }
+        self.call(&mut bytes, call)?;
+        Ok(())
+    }
+
+    /// The verdict: every number and every kind of room came.
+    pub fn finish(&self) -> Result<(), String> {
+        let numbers: Vec<u8> = (0..=7).chain(10..=23).collect();
+        self.numbers.report("calls of lists", &numbers)?;
+        self.room.report()
+    }
+}
+
+/// A byte of the header or of any slot, more often one that is used.
+fn place(area: &Area, random: &mut Random) -> usize {
+    let (keys, names) = (area.used_keys(), area.used_names());
+    match random.below(4) {
+        0 => random.below(8),
+        1 if !keys.is_empty() => 8 + 72 * random.pick(&keys) + random.below(72),
+        2 if !names.is_empty() => 4616 + 272 * random.pick(&names) + random.below(20),
+        _ => random.below(LENGTH),
+    }
+}
+
+/// A mix, and the number of calls in its list.
+fn mix(random: &mut Random) -> (Mix, u64) {
+    let step = *random.pick(&[1, 60, 60, 1_000, 1_000, 50_000]);
+    let any = random.up_to(LIMIT - 300 * step);
+    let first_clocks = [
+        0,
+        1,
+        1_000,
+        any,
+        any,
+        LIMIT - 300 * step,
+        LIMIT - step,
+        LIMIT,
+    ];
+    let few = Mix {
+        names: 1 + random.below(6),
+        keys: 1 + random.below(5),
+        name_family: random.below(pool::NAME_FAMILIES),
+        key_family: random.below(pool::KEY_FAMILIES),
+        one_recorded_key_in: 3,
+        first_clock: *random.pick(&first_clocks),
+        step,
+        one_deletion_in: 12,
+        one_start_in: 100,
+        one_break_in: 4,
+    };
+    // The name slots run out first.
+    let many_names = Mix {
+        names: 200,
+        keys: 80,
+        one_deletion_in: 60,
+        one_start_in: 5_000,
+        one_break_in: 300,
+        ..few
+    };
+    // The key slots do.
+    let many_keys = Mix {
+        names: 126,
+        keys: 250,
+        one_recorded_key_in: 10,
+        one_break_in: 800,
+        ..many_names
+    };
+    match random.below(4) {
+        0 => (many_names, 1_000),
+        1 => (many_keys, 1_000),
+        _ => (few, 300),
+    }
+}

@@ -1,0 +1,41 @@
+//! Names and keys by number, in families that are alike where a careless comparison would stop or go on too long.
+
+use crate::area::Key;
+
+pub const NAME_FAMILIES: usize = 6;
+pub const KEY_FAMILIES: usize = 4;
+
+/// A well-formed name; other numbers below 1,000 give other names of the family.
+pub fn name(family: usize, number: usize) -> Vec<u8> {
+    let digits = format!("{number:03}");
+    let long: String = (0..250)
+        .map(|place| if place % 50 == 46 { '.' } else { 'a' })
+        .collect();
+    let name = match family {
+        // Some of these begin others.
+        0 => format!("h{number}"),
+        1 => format!("no{digits}.clinic.example"),
+        2 => format!("{}.{digits}", "a".repeat(56)),
+        // 253 bytes, that end or begin alike.
+        3 => format!("{digits}{long}"),
+        4 => format!("{long}{digits}"),
+        _ => return self::name(number % 5, number),
+    };
+    name.into_bytes()
+}
+
+/// A key; other numbers below 256 give other keys of the family. Number 0 is all zero in the first three, as a free slot is.
+pub fn key(family: usize, number: usize) -> Key {
+    let byte = number as u8;
+    let mut key = [0; 64];
+    match family {
+        0 => key.fill(byte),
+        1 => key[63] = byte,
+        2 => key[0] = byte,
+        _ => {
+            key.fill(0xff);
+            key[31] = byte;
+        }
+    }
+    key
+}

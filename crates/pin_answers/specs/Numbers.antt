@@ -1,0 +1,81 @@
+-- The number of document 01 and the values for every case of an answer, by 'What each number says'. Assumes nothing.
+use mathlib.Core.Bool.{Bool, false}
+use mathlib.Core.Option.{Option, none, some}
+use Prim.Native.Nat.{ℕ}
+use lib.IntN.{pos}
+use Rattle.pin_model.specs.Calls.{Answer, plain}
+use Rattle.pin_answers.specs.declared.Refusal.{Refusal}
+use Rattle.pin_answers.specs.declared.Refusal.the-variants.{AreaLength, Damaged, NameMalformed, ClockAboveLimit, ClockBeforeLatest, HandshakeUnfinished, ExtensionMalformed, BreakIncorrect, KeyNoPoint, GenerationBelowOwn, TargetUnequal, SignatureIncorrect, Revoked, Expired}
+use Rattle.pin_answers.specs.declared.Checked.{Checked}
+use Rattle.pin_answers.specs.declared.Checked.the-variants as checked
+use Rattle.pin_answers.specs.declared.Verdict.{Verdict}
+use Rattle.pin_answers.specs.declared.Verdict.the-variants.{Unpinned, Confirmed, Contradicted}
+use Rattle.pin_answers.specs.declared.Judgement.{Judgement}
+use Rattle.pin_answers.specs.declared.Judgement.the-variants as judgement
+use Rattle.pin_answers.specs.declared.Deletion.{Deletion}
+use Rattle.pin_answers.specs.declared.Deletion.the-variants as deletion
+use Rattle.pin_answers.specs.declared.Inspection.{Inspection}
+use Rattle.pin_answers.specs.declared.Inspection.the-variants as inspection
+use Rattle.pin_answers.specs.declared.Starting.{Starting}
+use Rattle.pin_answers.specs.declared.Starting.the-variants as starting
+
+abbrev pub refusalNumber : Refusal → ℕ
+refusalNumber AreaLength = 10
+refusalNumber Damaged = 11
+refusalNumber NameMalformed = 12
+refusalNumber ClockAboveLimit = 13
+refusalNumber ClockBeforeLatest = 14
+refusalNumber HandshakeUnfinished = 15
+refusalNumber ExtensionMalformed = 16
+refusalNumber BreakIncorrect = 17
+refusalNumber KeyNoPoint = 18
+refusalNumber GenerationBelowOwn = 19
+refusalNumber TargetUnequal = 20
+refusalNumber SignatureIncorrect = 21
+refusalNumber Revoked = 22
+refusalNumber Expired = 23
+
+-- the number of a test that refused, none where it passed
+abbrev pub checkedNumber : Checked → Option ℕ
+checkedNumber checked.Passed = none
+checkedNumber (checked.Refused r) = some (refusalNumber r)
+
+abbrev pub verdictNumber : Verdict → ℕ
+verdictNumber Unpinned = 0
+verdictNumber Confirmed = 1
+verdictNumber Contradicted = 2
+
+abbrev pub judgementAnswer : Judgement → Answer
+judgementAnswer (judgement.Judged v full) =
+    record { number = verdictNumber v; noRoom = full; floor = 0; initial = 0; end = 0; minutesLeft = pos 0 }
+judgementAnswer (judgement.Refused r) = plain (refusalNumber r)
+
+abbrev pub deletionAnswer : Deletion → Answer
+deletionAnswer deletion.Deleted = plain 3
+deletionAnswer deletion.NotRecorded = plain 4
+deletionAnswer (deletion.Refused r) = plain (refusalNumber r)
+
+abbrev pub inspectionAnswer : Inspection → Answer
+inspectionAnswer (inspection.WithoutEnd floor initial) =
+    record { number = 5; noRoom = false; floor = floor; initial = initial; end = 0; minutesLeft = pos 0 }
+inspectionAnswer (inspection.WithEnd floor initial end left) =
+    record { number = 6; noRoom = false; floor = floor; initial = initial; end = end; minutesLeft = left }
+inspectionAnswer inspection.NotRecorded = plain 4
+inspectionAnswer (inspection.Refused r) = plain (refusalNumber r)
+
+abbrev pub startingAnswer : Starting → Answer
+startingAnswer starting.Started = plain 7
+startingAnswer (starting.Refused r) = plain (refusalNumber r)
+
+-- the number of each answer
+abbrev pub judgementNumber : Judgement → ℕ
+judgementNumber j = judgementAnswer j .number
+
+abbrev pub deletionNumber : Deletion → ℕ
+deletionNumber d = deletionAnswer d .number
+
+abbrev pub inspectionNumber : Inspection → ℕ
+inspectionNumber i = inspectionAnswer i .number
+
+abbrev pub startingNumber : Starting → ℕ
+startingNumber s = startingAnswer s .number

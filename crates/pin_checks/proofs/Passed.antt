@@ -1,0 +1,71 @@
+-- What a refused call answers and leaves, and what a call knows whose area has passed. Assumes nothing.
+use mathlib.Core.Path.{_≡_, refl, sym, ap, _∙_}
+use mathlib.Core.Bool.{Bool, true, false, cond, not}
+use mathlib.Core.List.{List, [], _∷_, _++_}
+use mathlib.Core.Option.{Option, none, some}
+use Prim.Native.Nat.{ℕ}
+use Rattle.octets.proofs.Numbers.{Bytes}
+use Rattle.host_name.specs.Name.{wellFormed}
+use Rattle.tack_extension.proofs.Steps.{never-some}
+use Rattle.pin_model.specs.Table.{soundTable}
+use Rattle.pin_model.specs.Layout.{encode, decode}
+use Rattle.pin_model.specs.Sound.{sound}
+use Rattle.pin_model.specs.Calls.{Call, first, areaTests, plain, refusal, granted, tableAfter, answerBy, answer, areaAfter}
+use Rattle.pin_model.proofs.Refusals.{AreaFacts, area-facts}
+use Rattle.pin_model.proofs.SoundArea.{SoundArea, sound-decode, sound-fits}
+use Rattle.pin_model.proofs.SoundFacts.{SoundFacts, sound-facts}
+use Rattle.pin_model.proofs.AreaKept.{refused-same, granted-after}
+use Rattle.pin_records.specs.Holds.{Holds, Stored}
+use Rattle.pin_checks.specs.Tests.{namedTests}
+
+-- the tests of a list in two parts
+pub first-here : (tests later : List (Bool × ℕ)) (n : ℕ) → first tests ≡ some n → first (tests ++ later) ≡ some n
+first-here [] later n e = never-some e
+first-here (test ∷ tests) later n e = go (test .0) e (first-here tests later n)
+  where
+    go : (b : Bool) → cond b (some (test .1)) (first tests) ≡ some n → (first tests ≡ some n → first (tests ++ later) ≡ some n)
+        → cond b (some (test .1)) (first (tests ++ later)) ≡ some n
+    go true d ih = d
+    go false d ih = ih d
+
+pub first-later : (tests later : List (Bool × ℕ)) → first tests ≡ none → first (tests ++ later) ≡ first later
+first-later [] later e = refl
+first-later (test ∷ tests) later e = go (test .0) e (first-later tests later)
+  where
+    go : (b : Bool) → cond b (some (test .1)) (first tests) ≡ none → (first tests ≡ none → first (tests ++ later) ≡ first later)
+        → cond b (some (test .1)) (first (tests ++ later)) ≡ first later
+    go true d ih = never-some (sym d)
+    go false d ih = ih d
+
+module _ (call : Call) (b : List ℕ) where
+  answer-by : (o : Option ℕ) → refusal call b ≡ o → answer call b ≡ answerBy o (granted call (decode b))
+  unfolding answer
+  answer-by o e = ap (λ (o : Option ℕ). answerBy o (granted call (decode b))) e
+
+  pub call-refused : (n : ℕ) → refusal call b ≡ some n → (plain n ≡ answer call b) × (b ≡ areaAfter call b)
+  call-refused n e = (sym (answer-by (some n) e), sym (refused-same call b n e))
+
+  pub call-granted : refusal call b ≡ none → (granted call (decode b) ≡ answer call b) × (encode (tableAfter call (decode b)) ≡ areaAfter call b)
+  call-granted e = (sym (answer-by none e), sym (granted-after call b e))
+
+-- a sound area stores the table that it decodes to
+pub record Ready (b : List ℕ) : Type 0 where
+  pub stored : Stored b
+  pub tableSound : soundTable (decode b) ≡ true
+
+pub ready : (b : List ℕ) (later : List (Bool × ℕ)) → Bytes b → first (areaTests b ++ later) ≡ none → Ready b
+ready b later byte e =
+    let area : AreaFacts b = area-facts b later e in
+    let found : SoundArea b = sound-decode b byte (area .areaSound) in
+    record {
+      stored = record {
+        bytes = sym (found .bytes);
+        long = area .areaLong;
+        fits = sound-fits b byte (area .areaSound);
+        nameOnce = sound-facts (decode b) (found .table) .nameOnce;
+      };
+      tableSound = found .table;
+    }
+
+pub ready-named : (b name : List ℕ) → Bytes b → first (namedTests b name) ≡ none → Ready b
+ready-named b name byte e = ready b ((not (wellFormed name), 12) ∷ []) byte e

@@ -1,0 +1,89 @@
+-- E1 to E12 hold: computed on the model's tables, and carried over to bytes by the run. Assumes nothing.
+use mathlib.Core.Path.{_≡_, refl, _∙_}
+use mathlib.Core.List.{List}
+use Rattle.octets.specs.Octets.{part, same, bigEndian, number, numberAfter}
+use Rattle.host_name.specs.Name.{isLabel, betweenDots, wellFormed}
+use Rattle.tack_extension.specs.Extension.{bytesOf, tackStep, breaksStep, activationStep, parse}
+use Rattle.tack_extension.specs.Tack.{publicKey, targetHash, breakKey, eachBreak, breakSignatures}
+use Rattle.pin_model.specs.Table.{Table}
+use Rattle.pin_model.specs.Layout.{joined, encodeKey, encodeName, encode}
+use Rattle.pin_model.specs.Judge.{partsOf, tackShown, enabled, breaksShown, brokenKeys, judged, noRoom, verdict}
+use Rattle.pin_model.specs.Calls.{Call, Answer}
+use Rattle.pin_journal.specs.Demand3.{areaOf}
+use Rattle.pin_journal.proofs.TableRun.{tableRefusal, tableAnswer, tableNext, tableRun}
+use Rattle.pin_journal.proofs.Main.{area-run, answer-run}
+use Rattle.pin_examples.specs.Examples.{ReadingRight, Row, Right, after, Every, nothing, _also_, e4, e4Area, e5, e5Inspected, e6, e7, e8, e8Inspected, e9, e10, e11, e12At1000, e12At1001, readingExamples, Examples}
+
+-- what a call is answered on the model's tables, after a history: where it unfolds, all that it is made of computes
+unfoldable modelAnswer : List Call → Call → Answer
+unfolding tableRun tableNext tableRefusal tableAnswer judged noRoom verdict partsOf tackShown enabled breaksShown brokenKeys publicKey targetHash breakKey eachBreak breakSignatures bytesOf tackStep breaksStep activationStep parse isLabel betweenDots wellFormed part same bigEndian number numberAfter
+modelAnswer history call = tableAnswer call (tableRun history)
+
+right : (r : Row) → modelAnswer (r .history) (r .call) ≡ r .gives → Right r
+unfolding modelAnswer
+right r e = answer-run (r .call) (r .history) ∙ e
+
+e1-e2-e3-right : Every ReadingRight readingExamples
+unfolding parse tackStep breaksStep activationStep number numberAfter
+e1-e2-e3-right = refl also refl also refl also nothing
+
+e4-right : Right e4
+unfolding modelAnswer
+e4-right = right e4 refl
+
+e4-bytes : areaOf (after e4) ≡ e4Area
+unfolding modelAnswer encode joined encodeKey encodeName e4Area
+e4-bytes = area-run (after e4) ∙ refl
+
+e5-right : Right e5
+unfolding modelAnswer
+e5-right = right e5 refl
+
+e5Inspected-right : Right e5Inspected
+unfolding modelAnswer
+e5Inspected-right = right e5Inspected refl
+
+e6-right : Right e6
+unfolding modelAnswer
+e6-right = right e6 refl
+
+e7-right : Right e7
+unfolding modelAnswer
+e7-right = right e7 refl
+
+e8-right : Right e8
+unfolding modelAnswer
+e8-right = right e8 refl
+
+e8Inspected-right : Right e8Inspected
+unfolding modelAnswer
+e8Inspected-right = right e8Inspected refl
+
+e9-right : Right e9
+unfolding modelAnswer
+e9-right = right e9 refl
+
+e10-right : Right e10
+unfolding modelAnswer
+e10-right = right e10 refl
+
+e11-right : Right e11
+unfolding modelAnswer
+e11-right = right e11 refl
+
+e12At1000-right : Right e12At1000
+unfolding modelAnswer
+e12At1000-right = right e12At1000 refl
+
+e12At1001-right : Right e12At1001
+unfolding modelAnswer
+e12At1001-right = right e12At1001 refl
+
+pub examples-hold : Examples
+examples-hold = record {
+  readings = e1-e2-e3-right;
+  rows =
+      e4-right also e5-right also e5Inspected-right also e6-right also e7-right also e8-right also e8Inspected-right
+      also e9-right also e10-right also e11-right also e12At1000-right also e12At1001-right also nothing;
+  e4Bytes = e4-bytes;
+}

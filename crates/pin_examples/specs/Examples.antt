@@ -1,0 +1,153 @@
+-- E1 to E12 of document 01, 'Examples on both sides': one table under one statement, `Examples`. Assumes nothing.
+use mathlib.Core.Path.{_≡_}
+use mathlib.Core.Bool.{true, false}
+use mathlib.Core.List.{List, [], _∷_, _++_}
+use Prim.Native.Nat.{ℕ, _*_}
+use lib.IntN.{pos}
+use lib.ListN.{replicate}
+use Rattle.octets.specs.Octets.{bigEndian}
+use Rattle.tack_extension.specs.Extension.{parts, bytesOf, parse}
+use Rattle.tack_extension.specs.Answers.{readingOf, readingNumber}
+use Rattle.pin_model.specs.Judge.{connection}
+use Rattle.pin_model.specs.Calls.{Call, judge, inspect, Answer, plain, answer}
+use Rattle.pin_journal.specs.Demand3.{areaOf}
+
+-- bytes, and the number that the reader answers with
+pub record ReadingRow : Type 0 where
+  pub bytes : List ℕ
+  pub number : ℕ
+
+abbrev pub ReadingRight : ReadingRow → Type 0
+ReadingRight r = readingNumber (readingOf (parse (r .bytes))) ≡ r .number
+
+-- the calls before, the newest first, from an area that is all zero; the call; its whole answer
+pub record Row : Type 0 where
+  pub history : List Call
+  pub call : Call
+  pub gives : Answer
+
+abbrev pub Right : Row → Type 0
+Right r = answer (r .call) (areaOf (r .history)) ≡ r .gives
+
+abbrev pub row : List Call → Call → Answer → Row
+row history call gives = record { history = history; call = call; gives = gives }
+
+-- 'then', 'from E4': the calls up to a row's own
+abbrev pub after : Row → List Call
+after r = r .call ∷ r .history
+
+-- P holds of each row of a list
+infixr 5 _also_
+pub data Every {A : Type 0} (P : A → Type 0) : List A → Type 0 where
+  nothing : Every P []
+  _also_ : {x : A} {xs : List A} → P x → Every P xs → Every P (x ∷ xs)
+
+-- 'name `a.b`'
+abbrev pub host : List ℕ
+host = 0x61 ∷ 0x2E ∷ 0x62 ∷ []
+
+-- the hash that the server's key has, and the tack's target hash
+abbrev pub hash : List ℕ
+hash = replicate 32 0x22
+
+-- a tack of 'K all 0x11', by min_generation, generation and expiration; any bytes are its signature
+abbrev pub tack : ℕ → ℕ → ℕ → List ℕ
+tack minGeneration generation expiration =
+    replicate 64 0x11 ++ minGeneration ∷ generation ∷ bigEndian 4 expiration ++ hash ++ replicate 64 0x33
+
+-- an expiration after every clock below
+abbrev pub later : ℕ
+later = 4294967295
+
+-- a connection by its clock, with a tack and activation 1, or with 'no extension'; 'break signatures are absent, other
+-- checks pass'
+abbrev pub withTack : ℕ → List ℕ → Call
+withTack clock t = judge (connection clock host true (bytesOf (parts t [] 1)) hash true true true 0)
+
+abbrev pub withoutExtension : ℕ → Call
+withoutExtension clock = judge (connection clock host false [] hash true true true 0)
+
+-- E1: 'bytes 00 00 00 00 are well-formed'
+abbrev pub e1 : ReadingRow
+e1 = record { bytes = 0x00 ∷ 0x00 ∷ 0x00 ∷ 0x00 ∷ []; number = 9 }
+
+-- E2: 'the same with last byte 02 give 16'
+abbrev pub e2 : ReadingRow
+e2 = record { bytes = 0x00 ∷ 0x00 ∷ 0x00 ∷ 0x02 ∷ []; number = 16 }
+
+-- E3: 'zero bytes present give 16'
+abbrev pub e3 : ReadingRow
+e3 = record { bytes = []; number = 16 }
+
+-- E4: 'name `a.b`, K all 0x11, min_generation 3, generation 3, clock 1000, empty table, activation 1: unpinned'
+abbrev pub e4 : Row
+e4 = row [] (withTack 1000 (tack 3 3 later)) (plain 0)
+
+-- E4: 'Table: 00 00 03 E8 00 00 00 00; key slot 0: 01 03, six 00, 64 times 11; name slot 0: 01 00 03 00, 00 00 03 E8, eight
+-- 00, 61 2E 62; all else 00': the rest of 64 key slots of 72 bytes and of 128 name slots of 272 bytes
+unfoldable pub e4Area : List ℕ
+e4Area =
+    0x00 ∷ 0x00 ∷ 0x03 ∷ 0xE8 ∷ 0x00 ∷ 0x00 ∷ 0x00 ∷ 0x00 ∷ []
+    ++ 0x01 ∷ 0x03 ∷ replicate 6 0x00 ++ replicate 64 0x11
+    ++ replicate (63 * 72) 0x00
+    ++ 0x01 ∷ 0x00 ∷ 0x03 ∷ 0x00 ∷ 0x00 ∷ 0x00 ∷ 0x03 ∷ 0xE8 ∷ replicate 8 0x00 ++ 0x61 ∷ 0x2E ∷ 0x62 ∷ replicate 253 0x00
+    ++ replicate (127 * 272) 0x00
+
+-- E5: 'then K at 1600, activation 1: end 2200, confirmed'
+abbrev pub e5 : Row
+e5 = row (after e4) (withTack 1600 (tack 3 3 later)) (plain 1)
+
+-- E5's end, as an inspection shows it
+abbrev pub e5Inspected : Row
+e5Inspected =
+    row (after e5) (inspect host 1600)
+    (record { number = 6; noRoom = false; floor = 3; initial = 1000; end = 2200; minutesLeft = pos 600 })
+
+-- E6: 'then no extension at 2199: contradicted'
+abbrev pub e6 : Row
+e6 = row (after e5) (withoutExtension 2199) (plain 2)
+
+-- E7: 'instead at 2200: unpinned'
+abbrev pub e7 : Row
+e7 = row (after e5) (withoutExtension 2200) (plain 0)
+
+-- E8: 'from E4, K at 100000, activation 1: end 143200'
+abbrev pub e8 : Row
+e8 = row (after e4) (withTack 100000 (tack 3 3 later)) (plain 1)
+
+-- E8's end, as an inspection shows it
+abbrev pub e8Inspected : Row
+e8Inspected =
+    row (after e8) (inspect host 100000)
+    (record { number = 6; noRoom = false; floor = 3; initial = 1000; end = 143200; minutesLeft = pos 43200 })
+
+-- E9: 'from E4, K with generation 2 and min_generation 2: 22'
+abbrev pub e9 : Row
+e9 = row (after e4) (withTack 1000 (tack 2 2 later)) (plain 22)
+
+-- E10: 'generation 2, min_generation 3: 19, because 19 comes first'
+abbrev pub e10 : Row
+e10 = row (after e4) (withTack 1000 (tack 3 2 later)) (plain 19)
+
+-- E11: 'from E5, clock 1599: 14'
+abbrev pub e11 : Row
+e11 = row (after e5) (withTack 1599 (tack 3 3 later)) (plain 14)
+
+-- E12: 'expiration 1000 at clock 1000 passes, at 1001 gives 23'
+abbrev pub e12At1000 : Row
+e12At1000 = row [] (withTack 1000 (tack 3 3 1000)) (plain 0)
+
+abbrev pub e12At1001 : Row
+e12At1001 = row [] (withTack 1001 (tack 3 3 1000)) (plain 23)
+
+abbrev pub readingExamples : List ReadingRow
+readingExamples = e1 ∷ e2 ∷ e3 ∷ []
+
+abbrev pub examples : List Row
+examples = e4 ∷ e5 ∷ e5Inspected ∷ e6 ∷ e7 ∷ e8 ∷ e8Inspected ∷ e9 ∷ e10 ∷ e11 ∷ e12At1000 ∷ e12At1001 ∷ []
+
+-- 'E1-E12 are proved together as one table under one statement'
+pub record Examples : Type 0 where
+  pub readings : Every ReadingRight readingExamples
+  pub rows : Every Right examples
+  pub e4Bytes : areaOf (after e4) ≡ e4Area

@@ -1,0 +1,4 @@
+pub mod Learnt
+pub mod Steps
+pub mod ByParts
+pub mod Passing

@@ -1,0 +1,158 @@
+// Judging one connection: the refusals in the paper's order, then its steps.
+use pin_answers::Checked;
+use pin_answers::Judgement;
+use pin_answers::Refusal;
+use pin_records::store;
+use pin_steps::breaks;
+use pin_steps::create;
+use pin_steps::extend;
+use pin_steps::raise;
+use pin_steps::verdict;
+use pin_table::minutes::Clock;
+use pin_table::minutes::Minutes;
+use pin_tests::connection;
+use tack_extension::reader;
+use tack_extension::reader::Reading;
+ghost use mathlib.Core.Path.{_≡_};
+ghost use mathlib.Core.Bool.{true, false};
+ghost use Prim.Native.Nat.{_≤_};
+ghost use lib.IntN.{pos};
+ghost use lib.ListN.{length};
+ghost use Rattle.host_name.specs.Name.{wellFormed};
+ghost use Rattle.tack_extension.specs.Extension.{tackLength, breaksLength};
+ghost use Rattle.pin_model.specs.Table.{clockLimit, soundTable};
+ghost use Rattle.pin_model.specs.Layout.{decode, encode};
+ghost use Rattle.pin_model.specs.Judge.{connection, unlessEmpty};
+ghost use Rattle.pin_model.specs.Calls as calls;
+ghost use Rattle.pin_answers.specs.Numbers.{judgementAnswer};
+ghost use Rattle.pin_records.specs.Holds.{Holds, Stored};
+ghost use Rattle.pin_steps.specs.Steps.{verdictBy};
+ghost use Rattle.pin_judge.specs.Applied.{learnBy, crowdedBy, appliedBy, appliedAnswer};
+
+// Steps 1 and 2. The answer is 'no room'.
+fn learn(area: &mut [u8], name: &[u8], clock: Minutes, tack: &[u8], enabled: bool) -> bool
+    requires { ⌜ Stored (now area) × (soundTable (decode (now area)) ≡ true) × (wellFormed (now name) ≡ true) × (decode (now area) .latest ≤ clock .0) × (clock .0 ≤ clockLimit) × (tackLength (length (now tack)) ≡ true) ⌝ }
+    ensures { λ r. ⌜ (r ≡ crowdedBy enabled (now (name .entry)) (clock .0) (unlessEmpty (now (tack .entry))) (decode (now (area .entry)))) × Holds (now (area .exit)) (learnBy enabled (now (name .entry)) (clock .0) (unlessEmpty (now (tack .entry))) (decode (now (area .entry)))) ⌝ }
+{
+    if tack.len() == 0 {
+        return false;
+    }
+    raise::raise_floor(area, tack);
+    if enabled {
+        extend::extend_pin(area, name, tack, clock);
+        return create::create_record(area, name, tack, clock);
+    }
+    create::create_record(area, name, tack, clock)
+}
+
+// Steps 1 to 4, where nothing refuses.
+fn apply(
+    area: &mut [u8],
+    name: &[u8],
+    clock: Minutes,
+    tack: &[u8],
+    broken: &[u8],
+    enabled: bool,
+) -> Judgement
+    requires { ⌜ Stored (now area) × (soundTable (decode (now area)) ≡ true) × (wellFormed (now name) ≡ true) × (decode (now area) .latest ≤ clock .0) × (clock .0 ≤ clockLimit) × (tackLength (length (now tack)) ≡ true) × (breaksLength (length (now broken)) ≡ true) ⌝ }
+    ensures { λ r. ⌜ (judgementAnswer r ≡ appliedAnswer enabled (now (name .entry)) (clock .0) (now (tack .entry)) (now (broken .entry)) (decode (now (area .entry)))) × (now (area .exit) ≡ encode (appliedBy enabled (now (name .entry)) (clock .0) (now (tack .entry)) (now (broken .entry)) (decode (now (area .entry))))) ⌝ }
+{
+    let no_room = learn(area, name, clock, tack, enabled);
+    breaks::break_keys(area, broken);
+    store::store_latest(area, clock);
+    Judgement::Judged {
+        verdict: verdict::verdict_for(area, name, tack, clock),
+        no_room,
+    }
+}
+
+// A connection with this extension.
+fn judge_shown(
+    area: &mut [u8],
+    clock: u64,
+    name: &[u8],
+    extension: &[u8],
+    hash: &[u8],
+    handshake_finished: bool,
+    key_is_point: bool,
+    signature_correct: bool,
+    breaks_correct: u8,
+) -> Judgement
+    ensures answer { λ r. ⌜ judgementAnswer r ≡ calls.answer (calls.judge (connection clock (now (name .entry)) true (now (extension .entry)) (now (hash .entry)) «handshake_finished» «key_is_point» «signature_correct» «breaks_correct»)) (now (area .entry)) ⌝ }
+    ensures area { λ _. ⌜ now (area .exit) ≡ calls.areaAfter (calls.judge (connection clock (now (name .entry)) true (now (extension .entry)) (now (hash .entry)) «handshake_finished» «key_is_point» «signature_correct» «breaks_correct»)) (now (area .entry)) ⌝ }
+{
+    if let Checked::Refused(refusal) = pin_checks::check_name(area, name) {
+        return Judgement::Refused(refusal);
+    }
+    let Clock::At(now) = Minutes::of_clock(clock) else {
+        return Judgement::Refused(Refusal::ClockAboveLimit);
+    };
+    if let Checked::Refused(refusal) = connection::check_shown(
+        area,
+        now,
+        handshake_finished,
+        extension,
+        breaks_correct,
+        key_is_point,
+        hash,
+        signature_correct,
+    ) {
+        return Judgement::Refused(refusal);
+    }
+    let Reading::WellFormed { activation } = reader::read(extension) else {
+        return Judgement::Refused(Refusal::ExtensionMalformed);
+    };
+    apply(
+        area,
+        name,
+        now,
+        reader::tack_part(extension),
+        reader::breaks_part(extension),
+        activation == 1,
+    )
+}
+
+// Where no extension came: what would have come with neither tack nor break signature.
+const NOTHING: [u8; 4] = [0, 0, 0, 0];
+
+// Judges one finished connection: 10 to 23, or a verdict and whether there was no room for a record that it wanted.
+pub fn judge(
+    area: &mut [u8],
+    clock: u64,
+    name: &[u8],
+    extension_came: bool,
+    extension: &[u8],
+    hash: &[u8],
+    handshake_finished: bool,
+    key_is_point: bool,
+    signature_correct: bool,
+    breaks_correct: u8,
+) -> Judgement
+    ensures answer { λ r. ⌜ judgementAnswer r ≡ calls.answer (calls.judge (connection clock (now (name .entry)) «extension_came» (now (extension .entry)) (now (hash .entry)) «handshake_finished» «key_is_point» «signature_correct» «breaks_correct»)) (now (area .entry)) ⌝ }
+    ensures area { λ _. ⌜ now (area .exit) ≡ calls.areaAfter (calls.judge (connection clock (now (name .entry)) «extension_came» (now (extension .entry)) (now (hash .entry)) «handshake_finished» «key_is_point» «signature_correct» «breaks_correct»)) (now (area .entry)) ⌝ }
+{
+    if extension_came {
+        return judge_shown(
+            area,
+            clock,
+            name,
+            extension,
+            hash,
+            handshake_finished,
+            key_is_point,
+            signature_correct,
+            breaks_correct,
+        );
+    }
+    judge_shown(
+        area,
+        clock,
+        name,
+        &NOTHING,
+        hash,
+        handshake_finished,
+        key_is_point,
+        signature_correct,
+        breaks_correct,
+    )
+}

@@ -1,0 +1,4 @@
+pub mod Deleted
+pub mod Looked
+pub mod Started
+pub mod Differences

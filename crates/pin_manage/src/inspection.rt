@@ -1,0 +1,65 @@
+// Inspection: what a name's record says at a clock, which may lie before latest.
+use pin_answers::Checked;
+use pin_answers::Inspection;
+use pin_answers::Refusal;
+use pin_records::find;
+use pin_records::find::FoundName;
+use pin_records::read;
+use pin_records::read::PinEnd;
+use pin_table::minutes::Clock;
+use pin_table::minutes::Minutes;
+use pin_table::slots::NameSlot;
+ghost use mathlib.Core.Path.{_≡_};
+ghost use mathlib.Core.Bool.{false};
+ghost use mathlib.Core.Option.{none};
+ghost use Prim.Native.Nat.{_<_, _≤_};
+ghost use lib.IntN.{pos, _-ℤ_};
+ghost use lib.ListN.{getD};
+ghost use Rattle.pin_model.specs.Table.{clockLimit};
+ghost use Rattle.pin_model.specs.Layout.{decode};
+ghost use Rattle.pin_model.specs.Calls as calls;
+ghost use Rattle.pin_answers.specs.Numbers.{inspectionAnswer};
+ghost use Rattle.pin_records.specs.Holds.{Stored};
+ghost use Rattle.pin_records.specs.Find.{isFree};
+ghost use Rattle.pin_manage.specs.Inspected.{inspectedSlot};
+
+// The minutes from one to the other: negative where the other comes first.
+fn minutes_between(from: Minutes, to: Minutes) -> i64
+    ensures { λ r. ⌜ r ≡ pos (to .0) -ℤ pos (from .0) ⌝ }
+{
+    (to.count() as i64) - (from.count() as i64)
+}
+
+// What the record in a used slot says.
+fn inspect_slot(area: &[u8], n: NameSlot, clock: Minutes) -> Inspection
+    requires { ⌜ Stored (now area) × (n .0 < 128) × (isFree (getD (decode (now area) .names) (n .0) none) ≡ false) ⌝ }
+    ensures { λ r. ⌜ inspectionAnswer r ≡ inspectedSlot (clock .0) (decode (now (area .entry)) .keys) (getD (decode (now (area .entry)) .names) (n .0) none) ⌝ }
+{
+    let floor = read::floor(area, read::key_of(area, n));
+    let initial = read::initial(area, n).count();
+    match read::end(area, n) {
+        PinEnd::Absent => Inspection::WithoutEnd { floor, initial },
+        PinEnd::At(end) => Inspection::WithEnd {
+            floor,
+            initial,
+            end: end.count(),
+            minutes_left: minutes_between(clock, end),
+        },
+    }
+}
+
+// 10, 11, 12, 13, 4, 5 or 6.
+pub fn inspect(area: &[u8], name: &[u8], clock: u64) -> Inspection
+    ensures { λ r. ⌜ inspectionAnswer r ≡ calls.answer (calls.inspect (now (name .entry)) clock) (now (area .entry)) ⌝ }
+{
+    if let Checked::Refused(refusal) = pin_checks::check_name(area, name) {
+        return Inspection::Refused(refusal);
+    }
+    let Clock::At(at) = Minutes::of_clock(clock) else {
+        return Inspection::Refused(Refusal::ClockAboveLimit);
+    };
+    let FoundName::At(n) = find::find_name(area, name) else {
+        return Inspection::NotRecorded;
+    };
+    inspect_slot(area, n, at)
+}

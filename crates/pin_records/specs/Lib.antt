@@ -1,0 +1,4 @@
+pub mod Holds
+pub mod Find
+pub mod Read
+pub mod Store

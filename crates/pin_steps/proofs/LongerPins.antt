@@ -1,0 +1,56 @@
+-- Step 2(i) on an area: the pin of the name and the tack's key lasts longer, and no other. Assumes nothing.
+use mathlib.Core.Path.{_≡_, sym, _∙_, ap, ap₂}
+use mathlib.Core.Bool.{Bool, true, false, _&&_}
+use mathlib.Core.List.{List}
+use mathlib.Core.Option.{none}
+use Prim.Native.Nat.{ℕ, _+_, min}
+use native.Mathlib.Omega.{arith}
+use lib.ListN.{getD, set}
+use Rattle.octets.specs.Octets.{any}
+use Rattle.octets.proofs.Tests.{and-left, and-both}
+use Rattle.octets.proofs.Equal.{same-eq}
+use Rattle.tack_extension.specs.Tack.{publicKey}
+use Rattle.pin_model.specs.Slots.{used}
+use Rattle.pin_model.specs.Table.{thirtyDays, NameRecord, Table, nameIs, pinnedTo}
+use Rattle.pin_model.specs.Judge.{sinceInitial, extendedTo}
+use Rattle.pin_model.proofs.Lists.{none-implied, count-implied}
+use Rattle.pin_records.specs.Holds.{Holds, withName}
+use Rattle.pin_records.specs.Find.{holds, initialAt}
+use Rattle.pin_records.specs.Store.{withEnd}
+use Rattle.pin_records.proofs.Placed.{changed-none, changed-set}
+use Rattle.pin_records.proofs.Found.{FoundAt}
+use Rattle.pin_steps.specs.Steps.{extendBy}
+use Rattle.pin_steps.proofs.Tacks.{with-names}
+use Rattle.pin_steps.proofs.OneRecord.{found-any}
+
+module _ (name tack : List ℕ) (clock : ℕ) {b : List ℕ} {t : Table} (h : Holds b t) where
+  -- the record has the name and the tack's key
+  abbrev both : NameRecord → Bool
+  both r = nameIs name r && pinnedTo (publicKey tack) r
+
+  named : (r : NameRecord) → both r ≡ true → nameIs name r ≡ true
+  named r = and-left (nameIs name r) (pinnedTo (publicKey tack) r)
+
+  extend-none : any both (used (t .names)) ≡ false → Holds b (extendBy true name tack clock t)
+  extend-none e = with-names (sym (changed-none both (extendedTo clock) (t .names) e)) h
+
+  pub extend-absent : any (nameIs name) (used (t .names)) ≡ false → Holds b (extendBy true name tack clock t)
+  extend-absent e = extend-none (none-implied both (nameIs name) named (used (t .names)) e)
+
+  module _ {n : ℕ} (x : FoundAt (λ r. r .name) name (t .names) 128 n) where
+    pub extend-other : pinnedTo (publicKey tack) (x .what) ≡ false → Holds b (extendBy true name tack clock t)
+    extend-other e =
+        extend-none (found-any x (h .nameOnce name) (pinnedTo (publicKey tack)) ∙ ap (holds (pinnedTo (publicKey tack))) (x .there) ∙ e)
+
+    pub extend-stored : {d : List ℕ} {end initial : ℕ} → pinnedTo (publicKey tack) (x .what) ≡ true → initial ≡ initialAt (getD (t .names) n none)
+        → end ≡ clock + min thirtyDays (sinceInitial clock initial) → Holds d (withName t n (withEnd end (getD (t .names) n none)))
+        → Holds d (extendBy true name tack clock t)
+    extend-stored {d} {end} {initial} e since until g =
+        let r : NameRecord = x .what in
+        let own : initial ≡ r .initial = since ∙ ap initialAt (x .there) in
+        let its : end ≡ clock + min thirtyDays (sinceInitial clock (r .initial)) = until ∙ ap (λ (i : ℕ). clock + min thirtyDays (sinceInitial clock i)) own in
+        with-names
+        (ap (set (t .names) n) (ap₂ withEnd its (x .there))
+        ∙ sym (changed-set both (extendedTo clock) (t .names) n r (x .there)
+        (and-both (nameIs name r) (pinnedTo (publicKey tack) r) (same-eq (r .name) name (x .its)) e)
+        (omega (arith, h .nameOnce name, count-implied both (nameIs name) named (used (t .names)))))) g

@@ -1,0 +1,47 @@
+-- What a call's answer says of the rule that it computes, and the parts that slots lend. Assumes nothing.
+use mathlib.Core.Path.{_≡_, sym, ap, _∙_}
+use mathlib.Core.Bool.{Bool, true, false, not}
+use mathlib.Core.List.{List}
+use Prim.Native.Nat.{ℕ, _+_, _-_, _≤_, _<_}
+use native.Mathlib.Omega.{arith}
+use lib.ListN.{length, take, drop, getD}
+use lib.Seq.{take-all}
+use borrow.Author.Tests.{not-true, not-false}
+use Rattle.octets.specs.Octets.{part, same}
+use Rattle.octets.proofs.Tests.{is-false}
+use Rattle.octets.proofs.Parts.{part-length}
+use Rattle.octets.proofs.Equal.{same-true}
+use Rattle.pin_model.specs.Sound.{nameLength, nameIn}
+
+-- a rule's value, where a call answered r for it and the code went by `!r`
+pub no : {r d : Bool} → r ≡ d → not r ≡ true → d ≡ false
+no {r} e h = sym e ∙ not-true r h
+
+pub yes : {r d : Bool} → r ≡ d → not r ≡ false → d ≡ true
+yes {r} e h = sym e ∙ not-false r h
+
+-- the n bytes from `at`, as `&s[at..end]` lends them
+pub lent : (s : List ℕ) (at n end : ℕ) → end ≡ at + n → at + n ≤ length s
+    → (take (end - at) (drop at s) ≡ part s at n) × (length (take (end - at) (drop at s)) ≡ n)
+unfolding part
+lent s at n end e h =
+    let w : end - at ≡ n = omega arith in
+    (ap (λ (m : ℕ). take m (drop at s)) w, rw w (part-length s at n h))
+
+pub part-whole : (s : List ℕ) (n : ℕ) → length s ≡ n → part s 0 n ≡ s
+unfolding part
+part-whole s n e = take-all n s (omega arith)
+
+-- a lent part p, which is q, compared
+pub same-lent : (s p q : List ℕ) (at n : ℕ) → p ≡ q → length p ≡ n → same (part s at (length p)) p ≡ same (part s at n) q
+same-lent s p q at n e l = rw (l, e)
+
+-- names of different lengths differ
+pub name-sized : (s : List ℕ) → length s ≡ 272 → nameLength s < 256 → length (nameIn s) ≡ nameLength s
+name-sized s l h = part-length s 16 (getD s 2 0) (omega arith)
+
+pub names-differ : (s r : List ℕ) → length s ≡ 272 → length r ≡ 272 → nameLength s < 256 → nameLength r < 256
+    → (nameLength s ≡ nameLength r → ⊥) → same (nameIn s) (nameIn r) ≡ false
+names-differ s r ls lr bs br ne =
+    is-false (same (nameIn s) (nameIn r))
+    (λ e. ne (sym (name-sized s ls bs) ∙ ap length (same-true (nameIn s) (nameIn r) e) ∙ name-sized r lr br))

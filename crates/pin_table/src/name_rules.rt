@@ -1,0 +1,123 @@
+// What must hold of name slots by themselves, and of their minutes against the latest clock.
+use crate::minutes;
+use crate::minutes::Minutes;
+use crate::slots;
+use crate::slots::NAME_AT;
+use crate::slots::NAME_SLOT_LENGTH;
+use crate::slots::NAME_SLOTS;
+use crate::slots::NameSlot;
+ghost use mathlib.Core.Path.{_≡_};
+ghost use Prim.Native.Nat.{_≤_, _<_};
+ghost use lib.ListN.{length};
+ghost use Rattle.pin_model.specs.Table.{clockLimit};
+ghost use Rattle.pin_model.specs.Layout.{areaLength};
+ghost use Rattle.pin_model.specs.Sound.{latestIn, endSound, nameFormed, nameRight, nameShaped, namesShaped, sameName, nameTwice};
+
+// The end: 0 where not present, otherwise from initial to thirty days after latest.
+pub fn end_sound(s: &[u8], latest: Minutes) -> bool
+    requires { ⌜ (length (now s) ≡ 272) × (latest .0 ≤ clockLimit) ⌝ }
+    ensures { λ r. ⌜ r ≡ endSound (latest .0) (now (s .entry)) ⌝ }
+{
+    if s[3] == 1 {
+        let end = slots::end(s);
+        if !minutes::not_after(slots::initial(s), end) {
+            return false;
+        }
+        return minutes::not_after(end, latest.later());
+    }
+    if s[3] != 0 {
+        return false;
+    }
+    octets::zeros_at(s, 8, 4)
+}
+
+// The name is well-formed, and zeros stand behind it.
+pub fn name_formed(s: &[u8]) -> bool
+    requires { ⌜ length (now s) ≡ 272 ⌝ }
+    ensures { λ r. ⌜ r ≡ nameFormed (now (s .entry)) ⌝ }
+{
+    if !host_name::well_formed(slots::name(s)) {
+        return false;
+    }
+    let n = slots::name_length(s);
+    octets::zeros_at(s, NAME_AT + n, 256 - n)
+}
+
+// All rules of a used slot by itself.
+pub fn name_right(s: &[u8], latest: Minutes) -> bool
+    requires { ⌜ (length (now s) ≡ 272) × (latest .0 ≤ clockLimit) ⌝ }
+    ensures { λ r. ⌜ r ≡ nameRight (latest .0) (now (s .entry)) ⌝ }
+{
+    if !octets::zeros_at(s, 12, 4) {
+        return false;
+    }
+    if !name_formed(s) {
+        return false;
+    }
+    if !minutes::not_after(slots::initial(s), latest) {
+        return false;
+    }
+    end_sound(s, latest)
+}
+
+pub fn name_shaped(s: &[u8], latest: Minutes) -> bool
+    requires { ⌜ (length (now s) ≡ 272) × (latest .0 ≤ clockLimit) ⌝ }
+    ensures { λ r. ⌜ r ≡ nameShaped (latest .0) (now (s .entry)) ⌝ }
+{
+    if slots::is_used(s) {
+        return name_right(s, latest);
+    }
+    octets::zeros_at(s, 0, NAME_SLOT_LENGTH)
+}
+
+pub fn names_shaped(area: &[u8]) -> bool
+    requires { ⌜ (length (now area) ≡ areaLength) × (latestIn (now area) ≤ clockLimit) ⌝ }
+    ensures { λ r. ⌜ r ≡ namesShaped (now (area .entry)) ⌝ }
+{
+    let latest = slots::latest(area);
+    let mut n = 0;
+    while n < NAME_SLOTS {
+        let s = slots::name_slot(area, NameSlot(n));
+        if !name_shaped(s, latest) {
+            return false;
+        }
+        n += 1;
+    }
+    true
+}
+
+// Whether two slots are used and have one name.
+pub fn same_name(s: &[u8], r: &[u8]) -> bool
+    requires { ⌜ (length (now s) ≡ 272) × (length (now r) ≡ 272) ⌝ }
+    ensures { λ a. ⌜ a ≡ sameName (now (s .entry)) (now (r .entry)) ⌝ }
+{
+    if !slots::is_used(s) {
+        return false;
+    }
+    if !slots::is_used(r) {
+        return false;
+    }
+    if slots::name_length(s) != slots::name_length(r) {
+        return false;
+    }
+    let name = slots::name(r);
+    octets::same_at(s, NAME_AT, name)
+}
+
+// Whether a slot before this one has its name.
+pub fn name_twice(area: &[u8], n: NameSlot) -> bool
+    requires { ⌜ (length (now area) ≡ areaLength) × (n .0 < 128) ⌝ }
+    ensures { λ r. ⌜ r ≡ nameTwice (now (area .entry)) (n .0) ⌝ }
+{
+    let count = n.0;
+    let s = slots::name_slot(area, n);
+    let mut m = 0;
+    while m < count {
+        let r = slots::name_slot(area, NameSlot(m));
+        if same_name(s, r) {
+            return true;
+        }
+        m += 1;
+    }
+    false
+}

@@ -1,0 +1,62 @@
+// Whether an area is a sound pin table.
+use crate::key_rules;
+use crate::links;
+use crate::marks;
+use crate::minutes;
+use crate::minutes::Minutes;
+use crate::name_rules;
+use crate::slots;
+use crate::slots::AREA_LENGTH;
+ghost use mathlib.Core.Path.{_≡_};
+ghost use mathlib.Core.Bool.{_&&_};
+ghost use Prim.Native.Nat.{_≤_};
+ghost use lib.ListN.{length};
+ghost use Rattle.pin_model.specs.Table.{clockLimit};
+ghost use Rattle.pin_model.specs.Layout.{areaLength};
+ghost use Rattle.pin_model.specs.Sound.{latestIn, headSound, namesShaped, namesDistinct, namesKeyed, keysNamed, sound};
+
+// The eight bytes before the slots.
+fn head_sound(area: &[u8]) -> bool
+    requires { ⌜ length (now area) ≡ areaLength ⌝ }
+    ensures { λ r. ⌜ r ≡ headSound (now (area .entry)) ⌝ }
+{
+    if !minutes::not_after(slots::latest(area), Minutes::CLOCK_LIMIT) {
+        return false;
+    }
+    octets::zeros_at(area, 4, 4)
+}
+
+// All that is asked of the names, and the keys' names.
+fn names_sound(area: &[u8]) -> bool
+    requires { ⌜ (length (now area) ≡ areaLength) × (latestIn (now area) ≤ clockLimit) ⌝ }
+    ensures { λ r. ⌜ r ≡ (namesShaped (now (area .entry)) && (namesDistinct (now (area .entry)) && (namesKeyed (now (area .entry)) && keysNamed (now (area .entry))))) ⌝ }
+{
+    if !name_rules::names_shaped(area) {
+        return false;
+    }
+    if !marks::names_distinct(area) {
+        return false;
+    }
+    if !links::names_keyed(area) {
+        return false;
+    }
+    links::keys_named(area)
+}
+
+pub fn is_sound(area: &[u8]) -> bool
+    ensures { λ r. ⌜ r ≡ sound (now (area .entry)) ⌝ }
+{
+    if area.len() != AREA_LENGTH {
+        return false;
+    }
+    if !head_sound(area) {
+        return false;
+    }
+    if !key_rules::keys_shaped(area) {
+        return false;
+    }
+    if !marks::keys_distinct(area) {
+        return false;
+    }
+    names_sound(area)
+}
