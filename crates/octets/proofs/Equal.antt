@@ -69,12 +69,12 @@ zero-at (x ∷ xs) e (suc i) = zero-at xs (and-right (eqb x 0) (allZero xs) e) i
 pub zero-each : (xs : List ℕ) → ((i : ℕ) → i < length xs → getD xs i 0 ≡ 0) → allZero xs ≡ true
 zero-each xs h = ap allZero (ext-getD 0 xs (replicate (length xs) 0) (sym (length-replicate (length xs) 0)) (λ i l. h i l ∙ sym (getD-replicate (length xs) i 0 0 l))) ∙ are-zeros (length xs)
 
--- a sum that is zero exactly when each summand is
-pub sum-zero : (b : List ℕ) (at n sum : ℕ) → at + n ≤ length b
-    → (sum ≡ 0 → (j : ℕ) → j < n → getD b (at + j) 0 ≡ 0) → (((j : ℕ) → j < n → getD b (at + j) 0 ≡ 0) → sum ≡ 0)
-    → eqb sum 0 ≡ allZero (part b at n)
-sum-zero b at n sum fits f g =
+-- a number that is zero exactly when each byte is
+pub all-zero : (b : List ℕ) (at n most : ℕ) → at + n ≤ length b
+    → (most ≡ 0 → (j : ℕ) → j < n → getD b (at + j) 0 ≡ 0) → (((j : ℕ) → j < n → getD b (at + j) 0 ≡ 0) → most ≡ 0)
+    → eqb most 0 ≡ allZero (part b at n)
+all-zero b at n most fits f g =
     let len : length (part b at n) ≡ n = part-length b at n fits in
-    both-ways (eqb sum 0) (allZero (part b at n))
-    (λ e. zero-each (part b at n) (λ i l. let m : i < n = omega arith in part-at b at n i m ∙ f (eqb-true sum 0 e) i m))
-    (λ e. eq-eqb sum 0 (g (λ j l. sym (part-at b at n j l) ∙ zero-at (part b at n) e j)))
+    both-ways (eqb most 0) (allZero (part b at n))
+    (λ e. zero-each (part b at n) (λ i l. let m : i < n = omega arith in part-at b at n i m ∙ f (eqb-true most 0 e) i m))
+    (λ e. eq-eqb most 0 (g (λ j l. sym (part-at b at n j l) ∙ zero-at (part b at n) e j)))

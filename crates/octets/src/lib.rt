@@ -96,16 +96,26 @@ pub fn same_at(s: &[u8], at: usize, p: &[u8]) -> bool
     true
 }
 
-// Whether the n bytes from `at` are zero. It adds them up, since a loop that ends early can't go by vectors.
+// A byte that is zero exactly when both are: the greater of them.
+fn greater(a: u8, b: u8) -> u8
+    ensures { λ r. ⌜ (a ≤ r) × (b ≤ r) × (r ≤ a + b) ⌝ }
+{
+    if a < b {
+        return b;
+    }
+    a
+}
+
+// Whether the n bytes from `at` are zero. It looks for the greatest of them, since a loop that ends early can't go by vectors.
 pub fn zeros_at(s: &[u8], at: usize, n: usize) -> bool
-    requires { ⌜ (at + n ≤ length (now s)) × (n ≤ 65536) ⌝ }
+    requires { ⌜ at + n ≤ length (now s) ⌝ }
     ensures { λ r. ⌜ r ≡ allZero (part (now (s .entry)) at n) ⌝ }
 {
-    let mut sum: u32 = 0;
+    let mut most: u8 = 0;
     let mut i = 0;
     while i < n {
-        sum += wide(s[at + i]);
+        most = greater(most, s[at + i]);
         i += 1;
     }
-    sum == 0
+    most == 0
 }

@@ -4,14 +4,16 @@ use mathlib.Core.Bool.{Bool, true, false, not}
 use mathlib.Core.List.{List}
 use Prim.Native.Nat.{ℕ, _+_, _-_, _≤_, _<_}
 use native.Mathlib.Omega.{arith}
-use lib.ListN.{length, take, drop, getD}
+use lib.ListN.{length, take, drop, getD, replicate}
 use lib.Seq.{take-all}
 use borrow.Author.Tests.{not-true, not-false}
-use Rattle.octets.specs.Octets.{part, same}
+use Rattle.octets.specs.Octets.{part, same, allZero}
 use Rattle.octets.proofs.Tests.{is-false}
 use Rattle.octets.proofs.Parts.{part-length}
-use Rattle.octets.proofs.Equal.{same-true}
-use Rattle.pin_model.specs.Sound.{nameLength, nameIn}
+use Rattle.octets.proofs.Equal.{same-true, zeros-are}
+use Rattle.pin_model.specs.Layout.{areaLength}
+use Rattle.pin_model.specs.Sound.{nameLength, nameIn, sound}
+use Rattle.pin_model.proofs.SoundEncode.{zeros-sound}
 
 -- a rule's value, where a call answered r for it and the code went by `!r`
 pub no : {r d : Bool} → r ≡ d → not r ≡ true → d ≡ false
@@ -45,3 +47,8 @@ pub names-differ : (s r : List ℕ) → length s ≡ 272 → length r ≡ 272 �
 names-differ s r ls lr bs br ne =
     is-false (same (nameIn s) (nameIn r))
     (λ e. ne (sym (name-sized s ls bs) ∙ ap length (same-true (nameIn s) (nameIn r) e) ∙ name-sized r lr br))
+
+-- an area that is all zero is the empty table
+pub zeros-are-sound : (b : List ℕ) → length b ≡ areaLength → allZero b ≡ true → sound b ≡ true
+zeros-are-sound b long e =
+    ap sound (zeros-are b e ∙ ap (λ (n : ℕ). replicate n 0) long) ∙ zeros-sound

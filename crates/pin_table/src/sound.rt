@@ -8,9 +8,10 @@ use crate::name_rules;
 use crate::slots;
 use crate::slots::AREA_LENGTH;
 ghost use mathlib.Core.Path.{_≡_};
-ghost use mathlib.Core.Bool.{_&&_};
+ghost use mathlib.Core.Bool.{true, _&&_};
 ghost use Prim.Native.Nat.{_≤_};
 ghost use lib.ListN.{length};
+ghost use Rattle.octets.specs.Octets.{allZero};
 ghost use Rattle.pin_model.specs.Table.{clockLimit};
 ghost use Rattle.pin_model.specs.Layout.{areaLength};
 ghost use Rattle.pin_model.specs.Sound.{latestIn, headSound, namesShaped, namesDistinct, namesKeyed, keysNamed, sound};
@@ -43,7 +44,8 @@ fn names_sound(area: &[u8]) -> bool
     links::keys_named(area)
 }
 
-pub fn is_sound(area: &[u8]) -> bool
+// Rule by rule.
+fn rules_hold(area: &[u8]) -> bool
     ensures { λ r. ⌜ r ≡ sound (now (area .entry)) ⌝ }
 {
     if area.len() != AREA_LENGTH {
@@ -59,4 +61,27 @@ pub fn is_sound(area: &[u8]) -> bool
         return false;
     }
     names_sound(area)
+}
+
+// Whether the area is all zero, as starting leaves it. A table that has judged has a latest clock, so that it takes one look.
+fn is_empty(area: &[u8]) -> bool
+    requires { ⌜ length (now area) ≡ areaLength ⌝ }
+    ensures { λ r. ⌜ (r ≡ true → allZero (now (area .entry)) ≡ true) ⌝ }
+{
+    if !octets::zeros_at(area, 0, 8) {
+        return false;
+    }
+    octets::zeros_at(area, 0, AREA_LENGTH)
+}
+
+pub fn is_sound(area: &[u8]) -> bool
+    ensures { λ r. ⌜ r ≡ sound (now (area .entry)) ⌝ }
+{
+    if area.len() != AREA_LENGTH {
+        return false;
+    }
+    if is_empty(area) {
+        return true;
+    }
+    rules_hold(area)
 }
