@@ -73,7 +73,7 @@ inspectedIn name clock keys [] = plain 4
 inspectedIn name clock keys (r ∷ rs) =
     cond (nameIs name r) (inspectedWith clock (floorOf (r .key) keys) (r .initial) (r .end)) (inspectedIn name clock keys rs)
 
--- what a call that isn't refused answers, by the table that it got and the table that it leaves; and the table that it leaves
+-- 'by the steps', 'name gone', 'all zero': the table that a call leaves which isn't refused, and what it answers
 abbrev pub tableAfter : Call → Table → Table
 tableAfter (judge c) t = judged c t
 tableAfter (delete name) t = deleted name t

@@ -76,7 +76,7 @@ abbrev pub allCorrect : List (List ℕ) → ℕ → Bool
 allCorrect [] bits = true
 allCorrect (s ∷ ss) bits = eqb (bits % 2) 1 && allCorrect ss (bits / 2)
 
--- 'What each number says': the tests in the table's order, each with its number
+-- whether nothing was read
 abbrev pub isNone : {A : Type 0} → Option A → Bool
 isNone none = true
 isNone (some a) = false
@@ -90,7 +90,8 @@ ofTack (some tack) test = test tack
 abbrev pub revoked : Table → List ℕ → Bool
 revoked t tack = any (λ k. keyIs (publicKey tack) k && ltb (generation tack) (k .floor)) (used (t .keys))
 
--- a hash that isn't 32 bytes long is unequal to every target hash, which is
+-- 'What each number says': the tests from 12 on in the table's order, each with its number. A hash that isn't 32 bytes long is
+-- unequal to every target hash, since that is.
 abbrev pub connectionTests : Connection → Table → List (Bool × ℕ)
 connectionTests c t =
     (not (wellFormed (c .name)), 12)
