@@ -3,3 +3,4 @@ pub mod Parts
 pub mod Numbers
 pub mod Equal
 pub mod Search
+pub mod Runs

@@ -4,5 +4,4 @@ pub mod Found
 pub mod HeldSlots
 pub mod Swept
 pub mod Cleared
-pub mod Runs
 pub mod Stores

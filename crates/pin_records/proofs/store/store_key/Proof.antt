@@ -5,7 +5,7 @@ use native.Mathlib.Omega.{arith}
 use lib.ListN.{replicate}
 use denote.Ref.{now}
 use borrow.Author.Needs.{needs}
-use Rattle.pin_records.proofs.Runs.{first, step}
+use Rattle.octets.proofs.Runs.{first, step}
 use Rattle.pin_records.proofs.Stores.{key-stored}
 use Rattle.pin_records.proofs.store.store_key.Statement.{statement}
 use Rattle.pin_records.proofs.store.store_key.Tie as tie

@@ -8,7 +8,7 @@ use denote.Ref.{now}
 use borrow.Author.Needs.{needs}
 use Rattle.octets.specs.Octets.{put, bigEndian}
 use Rattle.octets.proofs.Numbers.{bigEndian-length}
-use Rattle.pin_records.proofs.Runs.{first, step}
+use Rattle.octets.proofs.Runs.{first, step}
 use Rattle.pin_records.proofs.Stores.{name-stored}
 use Rattle.pin_records.proofs.store.store_name.Statement.{statement}
 use Rattle.pin_records.proofs.store.store_name.Tie as tie
