@@ -4,13 +4,16 @@ use mathlib.Core.Bool.{Bool, true, false, cond, not}
 use mathlib.Core.List.{List, [], _∷_, _++_}
 use mathlib.Core.Option.{Option, none, some}
 use Prim.Native.Nat.{ℕ}
+use lib.ListN.{length}
+use borrow.Author.Tests.{eq-eqb}
 use Rattle.octets.proofs.Numbers.{Bytes}
 use Rattle.host_name.specs.Name.{wellFormed}
 use Rattle.tack_extension.proofs.Steps.{never-some}
 use Rattle.pin_model.specs.Table.{soundTable}
-use Rattle.pin_model.specs.Layout.{encode, decode}
+use Rattle.pin_model.specs.Layout.{areaLength, encode, decode}
 use Rattle.pin_model.specs.Sound.{sound}
 use Rattle.pin_model.specs.Calls.{Call, first, areaTests, plain, refusal, granted, tableAfter, answerBy, answer, areaAfter}
+use Rattle.pin_model.proofs.Rules.{rules-of}
 use Rattle.pin_model.proofs.Refusals.{AreaFacts, area-facts}
 use Rattle.pin_model.proofs.SoundArea.{SoundArea, sound-decode, sound-fits}
 use Rattle.pin_model.proofs.SoundFacts.{SoundFacts, sound-facts}
@@ -36,6 +39,25 @@ first-later (test ∷ tests) later e = go (test .0) e (first-later tests later)
         → cond b (some (test .1)) (first (tests ++ later)) ≡ first later
     go true d ih = never-some (sym d)
     go false d ih = ih d
+
+-- a sound area passes 10 and 11
+pub area-passes : (b : List ℕ) → sound b ≡ true → first (areaTests b) ≡ none
+area-passes b h = simp (eq-eqb (length b) areaLength (rules-of b h .whole), h)
+
+-- 10 to 12, by what 10 and 11 give and by the name
+module _ (b name : List ℕ) where
+  abbrev nameTest : List (Bool × ℕ)
+  nameTest = (not (wellFormed name), 12) ∷ []
+
+  pub named-refused : (n : ℕ) → first (areaTests b) ≡ some n → first (namedTests b name) ≡ some n
+  named-refused n e = first-here (areaTests b) nameTest n e
+
+  module _ (passed : first (areaTests b) ≡ none) where
+    pub named-malformed : wellFormed name ≡ false → first (namedTests b name) ≡ some 12
+    named-malformed e = first-later (areaTests b) nameTest passed ∙ simp e
+
+    pub named-passes : wellFormed name ≡ true → first (namedTests b name) ≡ none
+    named-passes e = first-later (areaTests b) nameTest passed ∙ simp e
 
 module _ (call : Call) (b : List ℕ) where
   answer-by : (o : Option ℕ) → refusal call b ≡ o → answer call b ≡ answerBy o (granted call (decode b))

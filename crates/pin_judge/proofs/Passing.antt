@@ -1,4 +1,4 @@
--- Judging with an extension that came: each refusal, what is known where none applies, and the answer then. Assumes nothing.
+-- The area's refusals; where an extension came, the later ones, what is known where none applies, and the answer then. Assumes nothing.
 use mathlib.Core.Path.{_≡_, refl, sym, ap, ap₂, _∙_}
 use mathlib.Core.Bool.{Bool, true, false, cond, not}
 use mathlib.Core.List.{List, [], _∷_, _++_}
@@ -15,14 +15,19 @@ use Rattle.tack_extension.proofs.Steps.{clash, byOption}
 use Rattle.tack_extension.proofs.RoundTrip.{reads-good}
 use Rattle.pin_model.specs.Table.{clockLimit, Table}
 use Rattle.pin_model.specs.Layout.{encode, decode}
-use Rattle.pin_model.specs.Judge.{Connection, connection, partsOf, tackShown, breaksShown, isNone, isEnabled}
-use Rattle.pin_model.specs.Calls.{Answer, plain, judge, first, refusal, answer, areaAfter}
+use Rattle.pin_model.specs.Judge.{Connection, connection, partsOf, tackShown, breaksShown, isNone, isEnabled, connectionTests}
+use Rattle.pin_model.specs.Calls.{Answer, plain, judge, first, areaTests, refusal, answer, areaAfter}
 use Rattle.pin_model.proofs.Refusals.{ConnectionFacts, refusal-facts, refusal-later}
 use Rattle.pin_checks.specs.Tests.{namedTests}
 use Rattle.pin_checks.proofs.Passed.{first-here, first-later, call-refused, call-granted}
 use Rattle.pin_tests.specs.Tests.{shownTests}
 use Rattle.pin_judge.specs.Applied.{appliedBy, appliedAnswer}
 use Rattle.pin_judge.proofs.ByParts.{granted-by, after-by}
+
+-- 10 and 11 come first, whatever the connection
+pub refused-area : (c : Connection) (b : List ℕ) (n : ℕ) → first (areaTests b) ≡ some n → (plain n ≡ answer (judge c) b) × (b ≡ areaAfter (judge c) b)
+unfolding refusal
+refused-area c b n e = call-refused (judge c) b n (first-here (areaTests b) (connectionTests c (decode b)) n e)
 
 -- what the reader's answer says of the parts
 pub record Sized (s : List ℕ) (a : ℕ) : Type 0 where

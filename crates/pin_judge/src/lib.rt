@@ -22,6 +22,7 @@ ghost use Rattle.host_name.specs.Name.{wellFormed};
 ghost use Rattle.tack_extension.specs.Extension.{tackLength, breaksLength};
 ghost use Rattle.pin_model.specs.Table.{clockLimit, soundTable};
 ghost use Rattle.pin_model.specs.Layout.{decode, encode};
+ghost use Rattle.pin_model.specs.Sound.{sound};
 ghost use Rattle.pin_model.specs.Judge.{connection, unlessEmpty};
 ghost use Rattle.pin_model.specs.Calls as calls;
 ghost use Rattle.pin_answers.specs.Numbers.{judgementAnswer};
@@ -66,7 +67,7 @@ fn apply(
     }
 }
 
-// A connection with this extension.
+// A connection with this extension, on a sound area.
 fn judge_shown(
     area: &mut [u8],
     clock: u64,
@@ -78,11 +79,12 @@ fn judge_shown(
     signature_correct: bool,
     breaks_correct: u8,
 ) -> Judgement
+    requires { ⌜ sound (now area) ≡ true ⌝ }
     ensures answer { λ r. ⌜ judgementAnswer r ≡ calls.answer (calls.judge (connection clock (now (name .entry)) true (now (extension .entry)) (now (hash .entry)) «handshake_finished» «key_is_point» «signature_correct» «breaks_correct»)) (now (area .entry)) ⌝ }
     ensures area { λ _. ⌜ now (area .exit) ≡ calls.areaAfter (calls.judge (connection clock (now (name .entry)) true (now (extension .entry)) (now (hash .entry)) «handshake_finished» «key_is_point» «signature_correct» «breaks_correct»)) (now (area .entry)) ⌝ }
 {
-    if let Checked::Refused(refusal) = pin_checks::check_name(area, name) {
-        return Judgement::Refused(refusal);
+    if !host_name::well_formed(name) {
+        return Judgement::Refused(Refusal::NameMalformed);
     }
     let Clock::At(now) = Minutes::of_clock(clock) else {
         return Judgement::Refused(Refusal::ClockAboveLimit);
@@ -115,8 +117,8 @@ fn judge_shown(
 // Where no extension came: what would have come with neither tack nor break signature.
 const NOTHING: [u8; 4] = [0, 0, 0, 0];
 
-// Judges one finished connection: 10 to 23, or a verdict and whether there was no room for a record that it wanted.
-pub fn judge(
+// Judges on an area that is known to be sound, as every area of a run is: it makes no test of the whole area.
+pub fn judge_sound_area(
     area: &mut [u8],
     clock: u64,
     name: &[u8],
@@ -128,8 +130,10 @@ pub fn judge(
     signature_correct: bool,
     breaks_correct: u8,
 ) -> Judgement
+    requires { ⌜ sound (now area) ≡ true ⌝ }
     ensures answer { λ r. ⌜ judgementAnswer r ≡ calls.answer (calls.judge (connection clock (now (name .entry)) «extension_came» (now (extension .entry)) (now (hash .entry)) «handshake_finished» «key_is_point» «signature_correct» «breaks_correct»)) (now (area .entry)) ⌝ }
     ensures area { λ _. ⌜ now (area .exit) ≡ calls.areaAfter (calls.judge (connection clock (now (name .entry)) «extension_came» (now (extension .entry)) (now (hash .entry)) «handshake_finished» «key_is_point» «signature_correct» «breaks_correct»)) (now (area .entry)) ⌝ }
+    ensures sound { λ _. ⌜ sound (now (area .exit)) ≡ true ⌝ }
 {
     if extension_came {
         return judge_shown(
@@ -149,6 +153,39 @@ pub fn judge(
         clock,
         name,
         &NOTHING,
+        hash,
+        handshake_finished,
+        key_is_point,
+        signature_correct,
+        breaks_correct,
+    )
+}
+
+// Judges one finished connection: 10 to 23, or a verdict and whether there was no room for a record that it wanted.
+pub fn judge(
+    area: &mut [u8],
+    clock: u64,
+    name: &[u8],
+    extension_came: bool,
+    extension: &[u8],
+    hash: &[u8],
+    handshake_finished: bool,
+    key_is_point: bool,
+    signature_correct: bool,
+    breaks_correct: u8,
+) -> Judgement
+    ensures answer { λ r. ⌜ judgementAnswer r ≡ calls.answer (calls.judge (connection clock (now (name .entry)) «extension_came» (now (extension .entry)) (now (hash .entry)) «handshake_finished» «key_is_point» «signature_correct» «breaks_correct»)) (now (area .entry)) ⌝ }
+    ensures area { λ _. ⌜ now (area .exit) ≡ calls.areaAfter (calls.judge (connection clock (now (name .entry)) «extension_came» (now (extension .entry)) (now (hash .entry)) «handshake_finished» «key_is_point» «signature_correct» «breaks_correct»)) (now (area .entry)) ⌝ }
+{
+    if let Checked::Refused(refusal) = pin_checks::check_area(area) {
+        return Judgement::Refused(refusal);
+    }
+    judge_sound_area(
+        area,
+        clock,
+        name,
+        extension_came,
+        extension,
         hash,
         handshake_finished,
         key_is_point,

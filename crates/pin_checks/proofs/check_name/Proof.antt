@@ -1,29 +1,48 @@
--- Each test that fails is the first that does.
-use mathlib.Core.Path.{_≡_, sym, _∙_}
+-- The area's refusals come before the name's. Assumes nothing.
+use mathlib.Core.Path.{_≡_, sym, ap, _∙_}
 use borrow.Author.Needs.{needs}
-use borrow.Author.Tests.{eq-eqb, ne-eqb, not-true, not-false}
+use Rattle.pin_answers.specs.Numbers.{checkedNumber}
+use Rattle.pin_checks.proofs.Passed.{named-refused, named-passes, named-malformed}
 use Rattle.pin_checks.proofs.check_name.Statement.{statement}
 use Rattle.pin_checks.proofs.check_name.Tie as tie
 
+check-area-requires : tie.Need-check-area-requires
+check-area-requires c κs = search needs
+
+enum-known-refusal : tie.Need-enum-known-refusal
+enum-known-refusal c = search needs
+
 returns : tie.Need-returns
-returns c = simp (ne-eqb _ _ (c .if1 .taken))
+returns c =
+    sym (named-refused (c .before .before .before .before .before .before .args .area .now) (c .before .before .before .before .before .before .args .name .now) _
+    (sym (c .before .before .before .check-area .ensures) ∙ ap checkedNumber (c .before .refusal .given .1)))
 
-is-sound-requires : tie.Need-is-sound-requires
-is-sound-requires c κs = search needs
-
-returns-2 : tie.Need-returns-2
-returns-2 c = simp (eq-eqb _ _ (c .before .before .if1 .left), sym (c .before .is-sound .ensures) ∙ not-true _ (c .if2 .taken))
+enum-told : tie.Need-enum-told
+enum-told c = search needs
 
 well-formed-requires : tie.Need-well-formed-requires
 well-formed-requires c κs = search needs
 
-returns-3 : tie.Need-returns-3
-returns-3 c = simp (eq-eqb _ _ (c .before .before .before .before .if1 .left), sym (c .before .before .before .is-sound .ensures) ∙ not-false _ (c .before .before .if2 .left), sym (c .before .well-formed .ensures) ∙ not-true _ (c .if3 .taken))
+returns-2 : tie.Need-returns-2
+returns-2 c =
+    sym (named-passes (c .before .before .before .before .before .before .before .args .area .now) (c .before .before .before .before .before .before .before .args .name .now)
+    (sym (c .before .before .before .before .check-area .ensures) ∙ ap checkedNumber (c .before .before .enum-told .given .1))
+    (sym (c .before .well-formed .ensures) ∙ c .if1 .taken))
 
-returns-4 : tie.Need-returns-4
-returns-4 c = simp (eq-eqb _ _ (c .before .before .before .before .if1 .left), sym (c .before .before .before .is-sound .ensures) ∙ not-false _ (c .before .before .if2 .left), sym (c .before .well-formed .ensures) ∙ not-false _ (c .if3 .left))
+returns-3 : tie.Need-returns-3
+returns-3 c =
+    sym (named-malformed (c .before .before .before .before .before .before .before .args .area .now) (c .before .before .before .before .before .before .before .args .name .now)
+    (sym (c .before .before .before .before .check-area .ensures) ∙ ap checkedNumber (c .before .before .enum-told .given .1))
+    (sym (c .before .well-formed .ensures) ∙ c .if1 .left))
 
 pub check-name-spec : {M : Type 1} → statement M
 check-name-spec =
     tie.close
-    (tie.spec returns is-sound-requires returns-2 well-formed-requires returns-3 returns-4)
+    (tie.spec
+    check-area-requires
+    enum-known-refusal
+    returns
+    enum-told
+    well-formed-requires
+    returns-2
+    returns-3)

@@ -1,30 +1,24 @@
--- Each refusal is the first that applies; where none does, the steps give the answer.
-use mathlib.Core.Path.{_≡_, refl, sym, ap, _∙_}
-use mathlib.Core.Bool.{Bool, true, false, true≢false}
-use native.Mathlib.Omega.{arith}
+-- Each refusal is the first that applies; where none does, the steps give the answer. Assumes nothing.
+use mathlib.Core.Path.{_≡_, sym, ap, _∙_}
+use mathlib.Core.Bool.{true≢false}
 use borrow.Author.Needs.{needs}
+use borrow.Author.Tests.{not-true, not-false}
 use Rattle.pin_answers.specs.Numbers.{checkedNumber}
-use Rattle.pin_checks.proofs.Passed.{ready-named}
+use Rattle.pin_checks.proofs.Passed.{area-passes, named-malformed, named-passes, ready-named}
 use Rattle.pin_checks.proofs.Clocks.{above, within}
 use Rattle.pin_tests.proofs.Shown.{malformed}
 use Rattle.pin_judge.proofs.Passing.{sized, refused-named, refused-late, refused-shown, facts, reads, judged-so}
 use Rattle.pin_judge.proofs.judge_shown.Statement.{statement}
 use Rattle.pin_judge.proofs.judge_shown.Tie as tie
 
-check-name-requires : tie.Need-check-name-requires
-check-name-requires c κs = search needs
-
-enum-known-refusal : tie.Need-enum-known-refusal
-enum-known-refusal c = search needs
-
-same-length : tie.Need-same-length
-same-length c = search needs
+well-formed-requires : tie.Need-well-formed-requires
+well-formed-requires c κs = search needs
 
 returns : tie.Need-returns
-returns c = refused-named (c .before .before .before .before .before .before .before .before .before .args .clock) (c .before .before .before .before .before .before .before .before .before .args .name .now) (c .before .before .before .before .before .before .before .before .before .args .extension .now) (c .before .before .before .before .before .before .before .before .before .args .hash .now) (c .before .before .before .before .before .before .before .before .before .args .handshake-finished) (c .before .before .before .before .before .before .before .before .before .args .key-is-point) (c .before .before .before .before .before .before .before .before .before .args .signature-correct) (c .before .before .before .before .before .before .before .before .before .args .breaks-correct) (c .before .before .before .before .before .before .before .before .before .args .area .now) _ (sym (c .before .before .before .check-name .ensures) ∙ ap checkedNumber (c .before .refusal .given .1))
-
-enum-told : tie.Need-enum-told
-enum-told c = search needs
+returns c =
+    let s = c .before .before .before .before .before .before in
+    refused-named (s .args .clock) (s .args .name .now) (s .args .extension .now) (s .args .hash .now) (s .args .handshake-finished) (s .args .key-is-point) (s .args .signature-correct) (s .args .breaks-correct) (s .args .area .now) 12
+    (named-malformed (s .args .area .now) (s .args .name .now) (area-passes (s .args .area .now) (s .pre)) (sym (c .before .well-formed .ensures) ∙ not-true _ (c .if1 .taken)))
 
 of-clock-requires : tie.Need-of-clock-requires
 of-clock-requires c κs = search needs
@@ -32,32 +26,35 @@ of-clock-requires c κs = search needs
 enum-known-now : tie.Need-enum-known-now
 enum-known-now c = search needs
 
-enum-told-2 : tie.Need-enum-told-2
-enum-told-2 c = search needs
-
-same-length-2 : tie.Need-same-length-2
-same-length-2 c = search needs
+enum-told : tie.Need-enum-told
+enum-told c = search needs
 
 returns-2 : tie.Need-returns-2
-returns-2 c = refused-late (c .before .before .before .before .before .before .before .before .before .before .before .args .clock) (c .before .before .before .before .before .before .before .before .before .before .before .args .name .now) (c .before .before .before .before .before .before .before .before .before .before .before .args .extension .now) (c .before .before .before .before .before .before .before .before .before .before .before .args .hash .now) (c .before .before .before .before .before .before .before .before .before .before .before .args .handshake-finished) (c .before .before .before .before .before .before .before .before .before .before .before .args .key-is-point) (c .before .before .before .before .before .before .before .before .before .before .before .args .signature-correct) (c .before .before .before .before .before .before .before .before .before .before .before .args .breaks-correct) (c .before .before .before .before .before .before .before .before .before .before .before .args .area .now) (sym (c .before .before .before .before .before .check-name .ensures) ∙ ap checkedNumber (c .before .before .before .enum-told .given .1)) (above _ (sym (c .enum-told2 .given .1) ∙ c .before .before .of-clock .ensures))
+returns-2 c =
+    let s = c .before .before .before .before .before .before .before .before .before in
+    refused-late (s .args .clock) (s .args .name .now) (s .args .extension .now) (s .args .hash .now) (s .args .handshake-finished) (s .args .key-is-point) (s .args .signature-correct) (s .args .breaks-correct) (s .args .area .now) (named-passes (s .args .area .now) (s .args .name .now) (area-passes (s .args .area .now) (s .pre)) (sym (c .before .before .before .before .well-formed .ensures) ∙ not-false _ (c .before .before .before .if1 .left)))
+    (above _ (sym (c .enum-told .given .1) ∙ c .before .before .of-clock .ensures))
 
 check-shown-requires : tie.Need-check-shown-requires
-check-shown-requires c κs = ready-named (c .before .before .before .before .before .before .before .before .before .before .before .before .before .args .area .now) (c .before .before .before .before .before .before .before .before .before .before .before .before .before .args .name .now) (λ i. c .before .before .before .before .before .before .before .before .before .before .before .before .slice-known .given i .fits) (sym (c .before .before .before .before .before .before .before .check-name .ensures) ∙ ap checkedNumber (c .before .before .before .before .before .enum-told .given .1)) .stored
+check-shown-requires c κs =
+    let s = c .before .before .before .before .before .before .before .before .before .before .before in
+    ready-named (s .args .area .now) (s .args .name .now) (λ i. c .before .before .before .before .before .before .before .before .before .before .slice-known .given i .fits) (named-passes (s .args .area .now) (s .args .name .now) (area-passes (s .args .area .now) (s .pre)) (sym (c .before .before .before .before .before .before .well-formed .ensures) ∙ not-false _ (c .before .before .before .before .before .if1 .left))) .stored
 
-enum-known-refusal-2 : tie.Need-enum-known-refusal-2
-enum-known-refusal-2 c = search needs
+enum-known-refusal : tie.Need-enum-known-refusal
+enum-known-refusal c = search needs
 
-same-length-3 : tie.Need-same-length-3
-same-length-3 c = search needs
+same-length : tie.Need-same-length
+same-length c = search needs
 
 returns-3 : tie.Need-returns-3
 returns-3 c =
-    let t = within (c .before .before .before .before .before .before .before .before .before .before .before .before .before .before .before .before .before .args .clock) (c .before .before .before .before .before .before .now .given .0 .0) (sym (c .before .before .before .before .before .before .now .given .1) ∙ c .before .before .before .before .before .before .before .before .of-clock .ensures) in
-    refused-shown (c .before .before .before .before .before .before .before .before .before .before .before .before .before .before .before .before .before .args .clock) (c .before .before .before .before .before .before .before .before .before .before .before .before .before .before .before .before .before .args .name .now) (c .before .before .before .before .before .before .before .before .before .before .before .before .before .before .before .before .before .args .extension .now) (c .before .before .before .before .before .before .before .before .before .before .before .before .before .before .before .before .before .args .hash .now) (c .before .before .before .before .before .before .before .before .before .before .before .before .before .before .before .before .before .args .handshake-finished) (c .before .before .before .before .before .before .before .before .before .before .before .before .before .before .before .before .before .args .key-is-point) (c .before .before .before .before .before .before .before .before .before .before .before .before .before .before .before .before .before .args .signature-correct) (c .before .before .before .before .before .before .before .before .before .before .before .before .before .before .before .before .before .args .breaks-correct) (c .before .before .before .before .before .before .before .before .before .before .before .before .before .before .before .before .before .args .area .now) (sym (c .before .before .before .before .before .before .before .before .before .before .before .check-name .ensures) ∙ ap checkedNumber (c .before .before .before .before .before .before .before .before .before .enum-told .given .1)) (t .passes) _ (c .before .before .before .before .before .before .now .given .0 .0 .0) (t .its)
-    (sym (c .before .before .before .check-shown .ensures) ∙ ap checkedNumber (c .before .refusal2 .given .1))
+    let s = c .before .before .before .before .before .before .before .before .before .before .before .before .before .before .before in
+    let t = within (s .args .clock) (c .before .before .before .before .before .before .now .given .0 .0) (sym (c .before .before .before .before .before .before .now .given .1) ∙ c .before .before .before .before .before .before .before .before .of-clock .ensures) in
+    refused-shown (s .args .clock) (s .args .name .now) (s .args .extension .now) (s .args .hash .now) (s .args .handshake-finished) (s .args .key-is-point) (s .args .signature-correct) (s .args .breaks-correct) (s .args .area .now) (named-passes (s .args .area .now) (s .args .name .now) (area-passes (s .args .area .now) (s .pre)) (sym (c .before .before .before .before .before .before .before .before .before .before .well-formed .ensures) ∙ not-false _ (c .before .before .before .before .before .before .before .before .before .if1 .left))) (t .passes) _ (c .before .before .before .before .before .before .now .given .0 .0 .0) (t .its)
+    (sym (c .before .before .before .check-shown .ensures) ∙ ap checkedNumber (c .before .refusal .given .1))
 
-enum-told-3 : tie.Need-enum-told-3
-enum-told-3 c = search needs
+enum-told-2 : tie.Need-enum-told-2
+enum-told-2 c = search needs
 
 read-requires : tie.Need-read-requires
 read-requires c κs = search needs
@@ -65,18 +62,19 @@ read-requires c κs = search needs
 enum-known-activation : tie.Need-enum-known-activation
 enum-known-activation c = search needs
 
-enum-told-4 : tie.Need-enum-told-4
-enum-told-4 c = search needs
+enum-told-3 : tie.Need-enum-told-3
+enum-told-3 c = search needs
 
-same-length-4 : tie.Need-same-length-4
-same-length-4 c = search needs
+same-length-2 : tie.Need-same-length-2
+same-length-2 c = search needs
 
 returns-4 : tie.Need-returns-4
 returns-4 c =
-    let t = within (c .before .before .before .before .before .before .before .before .before .before .before .before .before .before .before .before .before .before .before .args .clock) (c .before .before .before .before .before .before .before .before .now .given .0 .0) (sym (c .before .before .before .before .before .before .before .before .now .given .1) ∙ c .before .before .before .before .before .before .before .before .before .before .of-clock .ensures) in
+    let s = c .before .before .before .before .before .before .before .before .before .before .before .before .before .before .before .before .before in
+    let t = within (s .args .clock) (c .before .before .before .before .before .before .before .before .now .given .0 .0) (sym (c .before .before .before .before .before .before .before .before .now .given .1) ∙ c .before .before .before .before .before .before .before .before .before .before .of-clock .ensures) in
     absurd (true≢false
-    (sym (malformed (c .before .before .before .before .before .before .before .before .before .before .before .before .before .before .before .before .before .before .before .args .extension .now) (sym (c .before .before .read .ensures) ∙ c .enum-told4 .given .1))
-    ∙ reads (c .before .before .before .before .before .before .before .before .before .before .before .before .before .before .before .before .before .before .before .args .clock) (c .before .before .before .before .before .before .before .before .before .before .before .before .before .before .before .before .before .before .before .args .name .now) (c .before .before .before .before .before .before .before .before .before .before .before .before .before .before .before .before .before .before .before .args .extension .now) (c .before .before .before .before .before .before .before .before .before .before .before .before .before .before .before .before .before .before .before .args .hash .now) (c .before .before .before .before .before .before .before .before .before .before .before .before .before .before .before .before .before .before .before .args .handshake-finished) (c .before .before .before .before .before .before .before .before .before .before .before .before .before .before .before .before .before .before .before .args .key-is-point) (c .before .before .before .before .before .before .before .before .before .before .before .before .before .before .before .before .before .before .before .args .signature-correct) (c .before .before .before .before .before .before .before .before .before .before .before .before .before .before .before .before .before .before .before .args .breaks-correct) (c .before .before .before .before .before .before .before .before .before .before .before .before .before .before .before .before .before .before .before .args .area .now) (sym (c .before .before .before .before .before .before .before .before .before .before .before .before .before .check-name .ensures) ∙ ap checkedNumber (c .before .before .before .before .before .before .before .before .before .before .before .enum-told .given .1)) (t .passes) (c .before .before .before .before .before .before .before .before .now .given .0 .0 .0) (t .its) (sym (c .before .before .before .before .before .check-shown .ensures) ∙ ap checkedNumber (c .before .before .before .enum-told3 .given .1))))
+    (sym (malformed (s .args .extension .now) (sym (c .before .before .read .ensures) ∙ c .enum-told3 .given .1))
+    ∙ reads (s .args .clock) (s .args .name .now) (s .args .extension .now) (s .args .hash .now) (s .args .handshake-finished) (s .args .key-is-point) (s .args .signature-correct) (s .args .breaks-correct) (s .args .area .now) (named-passes (s .args .area .now) (s .args .name .now) (area-passes (s .args .area .now) (s .pre)) (sym (c .before .before .before .before .before .before .before .before .before .before .before .before .well-formed .ensures) ∙ not-false _ (c .before .before .before .before .before .before .before .before .before .before .before .if1 .left))) (t .passes) (c .before .before .before .before .before .before .before .before .now .given .0 .0 .0) (t .its) (sym (c .before .before .before .before .before .check-shown .ensures) ∙ ap checkedNumber (c .before .before .before .enum-told2 .given .1))))
 
 tack-part-requires : tie.Need-tack-part-requires
 tack-part-requires c κs = search needs
@@ -86,10 +84,12 @@ breaks-part-requires c κs = search needs
 
 apply-requires : tie.Need-apply-requires
 apply-requires c κs =
-    let t = within (c .before .before .before .before .before .before .before .before .before .before .before .before .before .before .before .before .before .before .before .before .before .before .before .args .clock) (c .before .before .before .before .before .before .before .before .before .before .before .before .now .given .0 .0) (sym (c .before .before .before .before .before .before .before .before .before .before .before .before .now .given .1) ∙ c .before .before .before .before .before .before .before .before .before .before .before .before .before .before .of-clock .ensures) in
-    let w = ready-named (c .before .before .before .before .before .before .before .before .before .before .before .before .before .before .before .before .before .before .before .before .before .before .before .args .area .now) (c .before .before .before .before .before .before .before .before .before .before .before .before .before .before .before .before .before .before .before .before .before .before .before .args .name .now) (λ i. c .before .before .before .before .before .before .before .before .before .before .before .before .before .before .before .before .before .before .before .before .before .before .slice-known .given i .fits) (sym (c .before .before .before .before .before .before .before .before .before .before .before .before .before .before .before .before .before .check-name .ensures) ∙ ap checkedNumber (c .before .before .before .before .before .before .before .before .before .before .before .before .before .before .before .enum-told .given .1)) in
-    let f = facts (c .before .before .before .before .before .before .before .before .before .before .before .before .before .before .before .before .before .before .before .before .before .before .before .args .clock) (c .before .before .before .before .before .before .before .before .before .before .before .before .before .before .before .before .before .before .before .before .before .before .before .args .name .now) (c .before .before .before .before .before .before .before .before .before .before .before .before .before .before .before .before .before .before .before .before .before .before .before .args .extension .now) (c .before .before .before .before .before .before .before .before .before .before .before .before .before .before .before .before .before .before .before .before .before .before .before .args .hash .now) (c .before .before .before .before .before .before .before .before .before .before .before .before .before .before .before .before .before .before .before .before .before .before .before .args .handshake-finished) (c .before .before .before .before .before .before .before .before .before .before .before .before .before .before .before .before .before .before .before .before .before .before .before .args .key-is-point) (c .before .before .before .before .before .before .before .before .before .before .before .before .before .before .before .before .before .before .before .before .before .before .before .args .signature-correct) (c .before .before .before .before .before .before .before .before .before .before .before .before .before .before .before .before .before .before .before .before .before .before .before .args .breaks-correct) (c .before .before .before .before .before .before .before .before .before .before .before .before .before .before .before .before .before .before .before .before .before .before .before .args .area .now) (sym (c .before .before .before .before .before .before .before .before .before .before .before .before .before .before .before .before .before .check-name .ensures) ∙ ap checkedNumber (c .before .before .before .before .before .before .before .before .before .before .before .before .before .before .before .enum-told .given .1)) (t .passes) (c .before .before .before .before .before .before .before .before .before .before .before .before .now .given .0 .0 .0) (t .its) (sym (c .before .before .before .before .before .before .before .before .before .check-shown .ensures) ∙ ap checkedNumber (c .before .before .before .before .before .before .before .enum-told3 .given .1)) in
-    let z = sized (c .before .before .before .before .before .before .before .before .before .before .before .before .before .before .before .before .before .before .before .before .before .before .before .args .extension .now) _ (sym (c .before .before .before .before .before .before .read .ensures) ∙ c .before .before .before .before .activation .given .1) in (
+    let s = c .before .before .before .before .before .before .before .before .before .before .before .before .before .before .before .before .before .before .before .before .before in
+    let t = within (s .args .clock) (c .before .before .before .before .before .before .before .before .before .before .before .before .now .given .0 .0) (sym (c .before .before .before .before .before .before .before .before .before .before .before .before .now .given .1) ∙ c .before .before .before .before .before .before .before .before .before .before .before .before .before .before .of-clock .ensures) in
+    let n = named-passes (s .args .area .now) (s .args .name .now) (area-passes (s .args .area .now) (s .pre)) (sym (c .before .before .before .before .before .before .before .before .before .before .before .before .before .before .before .before .well-formed .ensures) ∙ not-false _ (c .before .before .before .before .before .before .before .before .before .before .before .before .before .before .before .if1 .left)) in
+    let w = ready-named (s .args .area .now) (s .args .name .now) (λ i. c .before .before .before .before .before .before .before .before .before .before .before .before .before .before .before .before .before .before .before .before .slice-known .given i .fits) n in
+    let f = facts (s .args .clock) (s .args .name .now) (s .args .extension .now) (s .args .hash .now) (s .args .handshake-finished) (s .args .key-is-point) (s .args .signature-correct) (s .args .breaks-correct) (s .args .area .now) n (t .passes) (c .before .before .before .before .before .before .before .before .before .before .before .before .now .given .0 .0 .0) (t .its) (sym (c .before .before .before .before .before .before .before .before .before .check-shown .ensures) ∙ ap checkedNumber (c .before .before .before .before .before .before .before .enum-told2 .given .1)) in
+    let z = sized (s .args .extension .now) _ (sym (c .before .before .before .before .before .before .read .ensures) ∙ c .before .before .before .before .activation .given .1) in (
       w .stored,
       w .tableSound,
       f .nameFormed,
@@ -99,41 +99,38 @@ apply-requires c κs =
       rw (c .breaks-part .ensures) (z .breaks),
     )
 
-same-length-5 : tie.Need-same-length-5
-same-length-5 c = search needs
+same-length-3 : tie.Need-same-length-3
+same-length-3 c = search needs
 
 returns-5 : tie.Need-returns-5
 returns-5 c =
-    let t = within (c .before .before .before .before .before .before .before .before .before .before .before .before .before .before .before .before .before .before .before .before .before .before .before .before .before .before .args .clock) (c .before .before .before .before .before .before .before .before .before .before .before .before .before .before .before .now .given .0 .0) (sym (c .before .before .before .before .before .before .before .before .before .before .before .before .before .before .before .now .given .1) ∙ c .before .before .before .before .before .before .before .before .before .before .before .before .before .before .before .before .before .of-clock .ensures) in
-    judged-so (c .before .before .before .before .before .before .before .before .before .before .before .before .before .before .before .before .before .before .before .before .before .before .before .before .before .before .args .clock) (c .before .before .before .before .before .before .before .before .before .before .before .before .before .before .before .before .before .before .before .before .before .before .before .before .before .before .args .name .now) (c .before .before .before .before .before .before .before .before .before .before .before .before .before .before .before .before .before .before .before .before .before .before .before .before .before .before .args .extension .now) (c .before .before .before .before .before .before .before .before .before .before .before .before .before .before .before .before .before .before .before .before .before .before .before .before .before .before .args .hash .now) (c .before .before .before .before .before .before .before .before .before .before .before .before .before .before .before .before .before .before .before .before .before .before .before .before .before .before .args .handshake-finished) (c .before .before .before .before .before .before .before .before .before .before .before .before .before .before .before .before .before .before .before .before .before .before .before .before .before .before .args .key-is-point) (c .before .before .before .before .before .before .before .before .before .before .before .before .before .before .before .before .before .before .before .before .before .before .before .before .before .before .args .signature-correct) (c .before .before .before .before .before .before .before .before .before .before .before .before .before .before .before .before .before .before .before .before .before .before .before .before .before .before .args .breaks-correct) (c .before .before .before .before .before .before .before .before .before .before .before .before .before .before .before .before .before .before .before .before .before .before .before .before .before .before .args .area .now) (sym (c .before .before .before .before .before .before .before .before .before .before .before .before .before .before .before .before .before .before .before .before .check-name .ensures) ∙ ap checkedNumber (c .before .before .before .before .before .before .before .before .before .before .before .before .before .before .before .before .before .before .enum-told .given .1)) (t .passes) (c .before .before .before .before .before .before .before .before .before .before .before .before .before .before .before .now .given .0 .0 .0) (t .its) (sym (c .before .before .before .before .before .before .before .before .before .before .before .before .check-shown .ensures) ∙ ap checkedNumber (c .before .before .before .before .before .before .before .before .before .before .enum-told3 .given .1))
+    let s = c .before .before .before .before .before .before .before .before .before .before .before .before .before .before .before .before .before .before .before .before .before .before .before .before in
+    let t = within (s .args .clock) (c .before .before .before .before .before .before .before .before .before .before .before .before .before .before .before .now .given .0 .0) (sym (c .before .before .before .before .before .before .before .before .before .before .before .before .before .before .before .now .given .1) ∙ c .before .before .before .before .before .before .before .before .before .before .before .before .before .before .before .before .before .of-clock .ensures) in
+    judged-so (s .args .clock) (s .args .name .now) (s .args .extension .now) (s .args .hash .now) (s .args .handshake-finished) (s .args .key-is-point) (s .args .signature-correct) (s .args .breaks-correct) (s .args .area .now) (named-passes (s .args .area .now) (s .args .name .now) (area-passes (s .args .area .now) (s .pre)) (sym (c .before .before .before .before .before .before .before .before .before .before .before .before .before .before .before .before .before .before .before .well-formed .ensures) ∙ not-false _ (c .before .before .before .before .before .before .before .before .before .before .before .before .before .before .before .before .before .before .if1 .left))) (t .passes) (c .before .before .before .before .before .before .before .before .before .before .before .before .before .before .before .now .given .0 .0 .0) (t .its) (sym (c .before .before .before .before .before .before .before .before .before .before .before .before .check-shown .ensures) ∙ ap checkedNumber (c .before .before .before .before .before .before .before .before .before .before .enum-told2 .given .1))
     (c .before .before .before .before .before .before .before .activation .given .0 .0) _ _ (sym (c .before .before .before .before .before .before .before .before .before .read .ensures) ∙ c .before .before .before .before .before .before .before .activation .given .1) _ _ (c .before .before .before .before .tack-part .ensures) (c .before .before .before .breaks-part .ensures) (c .before .before .apply .ensures)
 
 pub judge-shown-spec : {M : Type 1} → statement M
 judge-shown-spec =
     tie.close
     (tie.spec
-    check-name-requires
-    enum-known-refusal
-    same-length
+    well-formed-requires
     returns
-    enum-told
     of-clock-requires
     enum-known-now
-    enum-told-2
-    same-length-2
+    enum-told
     returns-2
     check-shown-requires
-    enum-known-refusal-2
-    same-length-3
+    enum-known-refusal
+    same-length
     returns-3
-    enum-told-3
+    enum-told-2
     read-requires
     enum-known-activation
-    enum-told-4
-    same-length-4
+    enum-told-3
+    same-length-2
     returns-4
     tack-part-requires
     breaks-part-requires
     apply-requires
-    same-length-5
+    same-length-3
     returns-5)
