@@ -1,0 +1,12 @@
+-- `tally::empty` meets its contract. Assumes nothing.
+use mathlib.Core.Path.{refl}
+use Rattle.tally.specs.Tally.{tallied}
+use Rattle.tally.proofs.empty.Statement.{statement}
+use Rattle.tally.proofs.empty.Tie as tie
+
+returns : tie.Need-returns
+unfolding tallied
+returns c = refl
+
+pub empty-spec : {M : Type 1} → statement M
+empty-spec = tie.close (tie.spec returns)
