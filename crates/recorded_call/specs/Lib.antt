@@ -1,0 +1,3 @@
+pub mod RecordedCall
+pub mod Places
+pub mod FieldEnds
