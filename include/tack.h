@@ -1,7 +1,8 @@
 /* The proved pin store for TLS gateways: the C interface of libtack.a.
  *
  * Every function answers for every input: any bytes, any length, any clock. A pointer may be null only where its length
- * is 0. Numbers and alerts are those of the paper; a refusal leaves all lent memory as it was, byte for byte.
+ * is 0. A table or an output may not overlap another argument. Numbers and alerts are those of the paper; a refusal leaves all
+ * lent memory as it was, byte for byte.
  */
 #ifndef TACK_H
 #define TACK_H
@@ -24,7 +25,7 @@ typedef struct {
     size_t start, length;
 } tack_span;
 
-/* 9 with the number of bytes written from the start of the output; 25: a part of wrong length or a wrong activation;
+/* 9 with the number of bytes written from the start of the output; 25: a part of wrong length, or a wrong activation or clock;
  * 26: the output is too small. */
 typedef struct {
     uint8_t number, alert;
@@ -105,6 +106,19 @@ tack_inspection tack_inspect(const uint8_t *table, size_t table_length,
 
 /* Makes the empty table, whatever the area held. */
 tack_outcome tack_start(uint8_t *table, size_t table_length);
+
+/* So many bytes are always enough for one recorded call. */
+#define TACK_LONGEST_CALL 4452
+
+/* Writes one call as a gateway records it: the arguments of tack_judge besides the table. A night of recorded calls, one
+ * behind the other, is what the program `replay` reads. 9 with the number of bytes written; 25 where a part cannot be
+ * recorded: a clock above 32 bits, a name above 300 bytes, a hash that is not of 32 bytes, an extension that came and is above
+ * 4,096 bytes; 26 where there is no space. */
+tack_writing tack_call_write(uint64_t clock, const uint8_t *name, size_t name_length,
+                             bool extension_came, const uint8_t *extension, size_t extension_length,
+                             const uint8_t *spki_sha256, size_t spki_sha256_length,
+                             bool handshake_finished, bool key_is_point, bool signature_correct,
+                             uint8_t breaks_correct, uint8_t *out, size_t out_length);
 
 #ifdef __cplusplus
 }

@@ -1,4 +1,4 @@
-/* Reads the smallest extension through the C interface, and one that is malformed. */
+/* Reads the smallest extension through the C interface, and one that is malformed; records a call. */
 #include "tack.h"
 #include <stdio.h>
 
@@ -14,6 +14,10 @@ int main(void) {
     const tack_writing written = tack_extension_write(NULL, 0, NULL, 0, 0, out, sizeof out);
     const tack_writing signed_bytes = tack_signed_bytes(NULL, 0, out, sizeof out);
     const uint8_t name[] = {'a', '.', 'b'};
+    const uint8_t hash[32] = {0};
+    uint8_t call[TACK_LONGEST_CALL];
+    const tack_writing recorded = tack_call_write(1000, name, sizeof name, false, NULL, 0, hash, sizeof hash,
+                                                  true, true, true, 0, call, sizeof call);
 
     printf("%d %d %d\n", good.number, good.alert, good.activation);
     printf("%d %d %d\n", bad.number, bad.alert, bad.activation);
@@ -22,5 +26,6 @@ int main(void) {
     printf("%d %d %zu %d%d%d%d\n", written.number, written.alert, written.written, out[0], out[1], out[2], out[3]);
     printf("%d %d %zu\n", signed_bytes.number, signed_bytes.alert, signed_bytes.written);
     printf("%d\n", tack_name_well_formed(name, sizeof name));
+    printf("%d %d %zu\n", recorded.number, recorded.alert, recorded.written);
     return 0;
 }

@@ -5,6 +5,7 @@
 //!
 //! * [`extension`]: the TACK extension (May 2012 draft) read and written.
 //! * [`table`]: the pin table, by which connections are judged.
+//! * [`night`]: a night of recorded calls, which the program `replay` reads.
 //! * [`is_host_name`]: whether the store takes a name.
 //! * [`raw`]: the C interface on slices, with the papers' own numbers.
 //!
@@ -15,6 +16,7 @@
 #![deny(unsafe_op_in_unsafe_fn)]
 
 pub mod extension;
+pub mod night;
 pub mod raw;
 pub mod table;
 

@@ -76,7 +76,7 @@ pub struct Inspection {
     pub minutes_left: i64,
 }
 
-/// The arguments of `tack_judge` besides the table.
+/// The arguments of `tack_judge` besides the table, and of `tack_call_write` besides the output.
 #[derive(Debug, Clone, Copy)]
 pub struct Connection<'a> {
     /// Minutes since 1970.
@@ -153,6 +153,22 @@ mod library {
             clock: u64,
         ) -> Inspection;
         pub fn tack_start(table: *mut u8, table_length: usize) -> Outcome;
+        pub fn tack_call_write(
+            clock: u64,
+            name: *const u8,
+            name_length: usize,
+            extension_came: bool,
+            extension: *const u8,
+            extension_length: usize,
+            spki_sha256: *const u8,
+            spki_sha256_length: usize,
+            handshake_finished: bool,
+            key_is_point: bool,
+            signature_correct: bool,
+            breaks_correct: u8,
+            out: *mut u8,
+            out_length: usize,
+        ) -> Writing;
     }
 }
 
@@ -249,4 +265,27 @@ pub fn inspect(table: &[u8], name: &[u8], clock: u64) -> Inspection {
 pub fn start(table: &mut [u8]) -> Outcome {
     // SAFETY: the pointer and the length are those of one slice.
     unsafe { library::tack_start(table.as_mut_ptr(), table.len()) }
+}
+
+/// `tack_call_write`.
+pub fn call_write(connection: &Connection, out: &mut [u8]) -> Writing {
+    // SAFETY: each pointer goes with the length of its slice, and `out` overlaps no other.
+    unsafe {
+        library::tack_call_write(
+            connection.clock,
+            connection.name.as_ptr(),
+            connection.name.len(),
+            connection.extension_came,
+            connection.extension.as_ptr(),
+            connection.extension.len(),
+            connection.spki_sha256.as_ptr(),
+            connection.spki_sha256.len(),
+            connection.handshake_finished,
+            connection.key_is_point,
+            connection.signature_correct,
+            connection.breaks_correct,
+            out.as_mut_ptr(),
+            out.len(),
+        )
+    }
 }

@@ -230,7 +230,8 @@ impl fmt::Debug for PinTable {
     }
 }
 
-fn arguments<'a>(connection: &Connection<'a>) -> raw::Connection<'a> {
+/// The connection as the C interface takes it.
+pub(crate) fn arguments<'a>(connection: &Connection<'a>) -> raw::Connection<'a> {
     raw::Connection {
         clock: connection.clock,
         name: connection.name,

@@ -85,7 +85,8 @@ pub extern "C" fn tack_extension_breaks(bytes: &[u8]) -> Span
     span_at(tack.len() + 3, breaks.len())
 }
 
-fn writing_answer(w: Writing) -> WritingAnswer
+// What a writer answers, in numbers.
+pub(crate) fn writing_answer(w: Writing) -> WritingAnswer
     ensures { λ r. ⌜ r ≡ writingAnswer w ⌝ }
 {
     match w {

@@ -2,4 +2,5 @@
 // proved function, and its contract is that function's with the numbers of document 01.
 pub mod extension;
 pub mod name;
+pub mod night;
 pub mod table;

@@ -1,0 +1,103 @@
+//! Recorded calls through the safe crate: the longest and the shortest, what cannot be recorded, and an output too small.
+
+use tack::night::{self, NotRecordable, LONGEST_CALL};
+use tack::raw;
+use tack::table::Connection;
+
+const HASH: [u8; 33] = [0x77; 33];
+
+fn call<'a>(name: &'a [u8], extension: Option<&'a [u8]>) -> Connection<'a> {
+    Connection {
+        clock: u64::from(u32::MAX),
+        name,
+        extension,
+        spki_sha256: &HASH[..32],
+        handshake_finished: true,
+        key_is_point: false,
+        signature_correct: true,
+        breaks_correct: 0xa5,
+    }
+}
+
+#[test]
+fn every_byte_of_a_short_call() {
+    let mut night = vec![9];
+    let recorded = night::record(&call(b"a", Some(&[8])), &mut night);
+    assert_eq!(recorded, Ok(()));
+    let fields: [&[u8]; 7] = [
+        &[9],
+        &[1, 0, 4, 0xff, 0xff, 0xff, 0xff],
+        &[2, 0, 1, b'a'],
+        &[3, 0, 2, 5, 0xa5],
+        &[&[4, 0, 32][..], &HASH[..32]].concat(),
+        &[5, 0, 1, 8],
+        &[6, 0, 0],
+    ];
+    assert_eq!(night, fields.concat());
+}
+
+#[test]
+fn the_shortest_and_the_longest() {
+    let mut night = vec![];
+    night::record(&call(&[], None), &mut night).expect("it is recordable");
+    assert_eq!(night.len(), 53);
+    let (name, extension) = ([0; 300], [0; 4096]);
+    night::record(&call(&name, Some(&extension)), &mut night).expect("it is recordable");
+    assert_eq!(night.len(), 53 + LONGEST_CALL);
+}
+
+#[test]
+fn each_part_that_cannot_be_recorded() {
+    let (name, extension) = ([0; 301], [0; 4097]);
+    let good = call(&name[1..], Some(&extension[1..]));
+    #[rustfmt::skip]
+    let refused = [
+        Connection { clock: 1 << 32, ..good },
+        Connection { clock: u64::MAX, ..good },
+        Connection { name: &name, ..good },
+        Connection { spki_sha256: &HASH[..31], ..good },
+        Connection { spki_sha256: &HASH, ..good },
+        Connection { spki_sha256: &[], ..good },
+        Connection { extension: Some(&extension), ..good },
+    ];
+    let mut night = vec![1, 2, 3];
+    for connection in refused {
+        assert_eq!(night::record(&connection, &mut night), Err(NotRecordable));
+        assert_eq!(night, [1, 2, 3]);
+    }
+    assert_eq!(night::record(&good, &mut night), Ok(()));
+}
+
+/// The library's own numbers: 25 before 26, and the output as it was.
+#[test]
+fn no_space() {
+    // No extension came, so its length does not count.
+    let good = raw::Connection {
+        clock: 0,
+        name: b"a",
+        extension_came: false,
+        extension: &[0; 5000],
+        spki_sha256: &HASH[..32],
+        handshake_finished: false,
+        key_is_point: false,
+        signature_correct: false,
+        breaks_correct: 0,
+    };
+    let bad = raw::Connection {
+        clock: 1 << 32,
+        ..good
+    };
+    let mut out = [7; 55];
+    for (number, connection) in [(26, good), (25, bad)] {
+        let answer = raw::call_write(&connection, &mut out[..53]);
+        assert_eq!(
+            (answer.number, answer.alert, answer.written),
+            (number, 0, 0)
+        );
+        assert_eq!(out, [7; 55]);
+    }
+    let answer = raw::call_write(&good, &mut out);
+    assert_eq!((answer.number, answer.alert, answer.written), (9, 0, 54));
+    assert_eq!(out[51..], [6, 0, 0, 7]);
+    assert_eq!(NotRecordable.number(), 25);
+}
