@@ -27,7 +27,7 @@ e1-e2-e3-right : Every ReadingRight readingExamples
 unfolding parse tackStep breaksStep activationStep number numberAfter
 e1-e2-e3-right = refl also refl also refl also nothing
 
-e4-right : Right e4
+pub e4-right : Right e4
 unfolding modelAnswer
 e4-right = right e4 refl
 
@@ -35,7 +35,7 @@ e4-bytes : areaOf (after e4) ≡ e4Area
 unfolding modelAnswer encode joined encodeKey encodeName e4Area
 e4-bytes = area-run (after e4) ∙ refl
 
-e5-right : Right e5
+pub e5-right : Right e5
 unfolding modelAnswer
 e5-right = right e5 refl
 

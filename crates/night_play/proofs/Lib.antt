@@ -1,0 +1,4 @@
+pub mod OneTurn
+pub mod Counted
+mod Facts
+pub mod Tallies

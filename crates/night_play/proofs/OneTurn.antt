@@ -1,0 +1,94 @@
+-- One turn: the call at its places is the recorded one, and its line is the report's. Assumes nothing.
+use mathlib.Core.Path.{_≡_, refl, sym, ap, subst, _∙_}
+use mathlib.Core.Bool.{Bool}
+use mathlib.Core.List.{List}
+use Prim.Native.Nat.{ℕ, _+_, _-_, _≤_, _<_, _/_, _%_}
+use native.Mathlib.Nat.{add-zero}
+use native.Mathlib.Omega.{arith}
+use lib.Dec.{eqb}
+use lib.ListN.{length, getD, take, drop, length-drop}
+use Rattle.octets.specs.Octets.{part, put, number}
+use Rattle.octets.proofs.Parts.{part-at}
+use Rattle.pin_model.specs.Judge.{Connection, connection}
+use Rattle.pin_model.specs.Calls.{Answer, judge, answer, areaAfter}
+use Rattle.recorded_call.specs.RecordedCall.{Front, taken, cutOff, bad}
+use Rattle.recorded_call.specs.Places.{callAt, extensionAt, takenAt, Ordered, Within}
+use Rattle.recorded_call.specs.declared.reader.Taken.{Taken}
+use Rattle.recorded_call.specs.declared.reader.Taken.the-variants as call
+use Rattle.night_report.specs.Report.{lineOf, line}
+use Rattle.night_play.specs.Turns.{turnBy, areaBy, outBy}
+use Rattle.night_play.specs.declared.Turn.{Turn}
+use Rattle.night_play.specs.declared.Turn.the-variants as turn
+
+-- the connection of what the code reads at a call's places
+pub call-read : (s : List ℕ) (nameEnd : ℕ) (came : Bool) (after : ℕ) {clock bits : ℕ} {name extension hash : List ℕ} {finished point correct : Bool}
+    → clock ≡ number (part s 3 4) → name ≡ part s 10 (nameEnd - 10) → extension ≡ extensionAt s nameEnd came after → hash ≡ part s (nameEnd + 8) 32
+    → finished ≡ eqb (getD s (nameEnd + 3) 0 / 1 % 2) 1 → point ≡ eqb (getD s (nameEnd + 3) 0 / 2 % 2) 1 → correct ≡ eqb (getD s (nameEnd + 3) 0 / 4 % 2) 1
+    → bits ≡ getD s (nameEnd + 4) 0
+    → connection clock name came extension hash finished point correct bits ≡ callAt s nameEnd came after
+unfolding callAt
+call-read s nameEnd came after e₁ e₂ e₃ e₄ e₅ e₆ e₇ e₈ =
+    let first : getD (part s (nameEnd + 3) 2) 0 0 ≡ getD s (nameEnd + 3) 0 =
+    part-at s (nameEnd + 3) 2 0 (omega arith) ∙ ap (λ (k : ℕ). getD s k 0) (add-zero (nameEnd + 3)) in
+    let place : nameEnd + 3 + 1 ≡ nameEnd + 4 = omega arith in
+    let second : getD (part s (nameEnd + 3) 2) 1 0 ≡ getD s (nameEnd + 4) 0 =
+    part-at s (nameEnd + 3) 2 1 (omega arith) ∙ ap (λ (k : ℕ). getD s k 0) place in
+    rw (first, second, e₁, e₂, e₃, e₄, e₅, e₆, e₇, e₈) refl
+
+-- what the reader's three answers say
+module _ (s : List ℕ) (r : Taken) {x : Front Connection} (e : takenAt s r ≡ x) where
+  pub called : {nameEnd after : ℕ} {came : Bool} → r ≡ call.Call nameEnd came after → taken (callAt s nameEnd came after) (drop after s) ≡ x
+  called h = sym (ap (takenAt s) h) ∙ e
+
+  pub cut : r ≡ call.CutOff → cutOff ≡ x
+  cut h = sym (ap (takenAt s) h) ∙ e
+
+  pub spoilt : r ≡ call.Bad → bad ≡ x
+  spoilt h = sym (ap (takenAt s) h) ∙ e
+
+pub placed : (s : List ℕ) (r : Taken) → Within s r → {nameEnd after : ℕ} {came : Bool} → r ≡ call.Call nameEnd came after → Ordered s nameEnd came after
+placed s r w h = subst (λ (q : Taken). Within s q) h w
+
+pub cut-within : (s : List ℕ) (r : Taken) → Within s r → r ≡ call.CutOff → length s < 4452
+cut-within s r w h = subst (λ (q : Taken). Within s q) h w
+
+-- a part that is cut out by its two ends
+pub part-between : (s : List ℕ) (at n : ℕ) → take (at + n - at) (drop at s) ≡ part s at n
+unfolding part
+part-between s at n =
+    let size : at + n - at ≡ n = omega arith in
+    ap (λ (k : ℕ). take k (drop at s)) size
+
+-- a turn on what stands in front of the night's bytes
+pub record Played (r : Turn) (index : ℕ) (area areaNow night out outNow : List ℕ) (at : ℕ) (x : Front Connection) : Type 0 where
+  pub turned : r ≡ turnBy index area night at x
+  pub judged : areaNow ≡ areaBy area x
+  pub written : outNow ≡ outBy index area out at x
+
+module _ (index : ℕ) (area night out : List ℕ) (at : ℕ) (x : Front Connection) where
+  pub played-line : (after : ℕ) (c : Connection) (a : Answer) {areaNow outNow : List ℕ} {end number : ℕ} {noRoom : Bool}
+      → taken c (drop after night) ≡ x → after ≤ length night
+      → a ≡ answer (judge c) area → areaNow ≡ areaAfter (judge c) area
+      → number ≡ a .number → noRoom ≡ a .noRoom
+      → (end ≡ at + length (lineOf index number noRoom)) × (outNow ≡ put out at (lineOf index number noRoom))
+      → Played (turn.Line after end number) index area areaNow night out outNow at x
+  played-line after c a {areaNow} {outNow} {end} {number} {noRoom} read within answered judged numbered room wrote =
+      let size : after ≡ length night - length (drop after night) = omega (arith, length-drop after night) in
+      let same : lineOf index number noRoom ≡ line index (answer (judge c) area) = rw (numbered, room, answered) refl in
+      let its : number ≡ answer (judge c) area .number = numbered ∙ ap (λ (b : Answer). b .number) answered in
+      let place : end ≡ at + length (line index (answer (judge c) area)) = wrote .0 ∙ ap (λ (l : List ℕ). at + length l) same in
+      subst (λ (y : Front Connection). Played (turn.Line after end number) index area areaNow night out outNow at y) read
+      (record { turned = line-same size place its; judged = judged; written = wrote .1 ∙ ap (λ (l : List ℕ). put out at l) same })
+    where
+      line-same : {a b c d e f : ℕ} → a ≡ b → c ≡ d → e ≡ f → turn.Line a c e ≡ turn.Line b d f
+      line-same x y z = rw (x, y, z) refl
+
+  pub played-cut : cutOff ≡ x → Played turn.CutOff index area area night out out at x
+  played-cut read =
+      subst (λ (y : Front Connection). Played turn.CutOff index area area night out out at y) read
+      (record { turned = refl; judged = refl; written = refl })
+
+  pub played-bad : bad ≡ x → Played turn.Bad index area area night out out at x
+  played-bad read =
+      subst (λ (y : Front Connection). Played turn.Bad index area area night out out at y) read
+      (record { turned = refl; judged = refl; written = refl })

@@ -1,0 +1,5 @@
+pub mod Decimal
+pub mod Pieces
+pub mod Lines
+pub mod Nights
+pub mod Example
