@@ -1,25 +1,52 @@
-//! Times the proved library beside the second program in one run: `bench [REPEATS]`, 9 repeats unless said.
+//! Times the proved library and program beside the second program in one run.
+//!
+//! * `bench [REPEATS]`: the soundness check and 20,000 calls of the library, 9 repeats unless said.
+//! * `bench nights [REPEATS [CALLS]]`: nights of recorded calls replayed, 5 repeats of 1,000,000 calls unless said, and of a
+//!   tenth of them on a full table.
 
 mod night;
+mod replays;
 mod soundness;
 mod tables;
 mod timing;
 
 use std::process::ExitCode;
 
-fn main() -> ExitCode {
-    let repeats = match std::env::args().nth(1) {
-        None => 9,
-        Some(text) => match text.parse() {
-            Ok(repeats) if repeats > 0 => repeats,
-            _ => {
-                eprintln!("bench [REPEATS]: {text} is no number from 1 on");
-                return ExitCode::FAILURE;
-            }
-        },
-    };
+const USAGE: &str = "bench [REPEATS] | nights [REPEATS [CALLS]]";
+
+fn number(argument: &str) -> Result<usize, String> {
+    match argument.replace('_', "").parse() {
+        Ok(number) if number > 0 => Ok(number),
+        _ => Err(format!("{USAGE}: {argument} is no number from 1 on")),
+    }
+}
+
+fn run(arguments: &[&str]) -> Result<(), String> {
+    match *arguments {
+        [] => library(9),
+        ["nights"] => replays::report(5, 1_000_000),
+        ["nights", repeats] => replays::report(number(repeats)?, 1_000_000),
+        ["nights", repeats, calls] => replays::report(number(repeats)?, number(calls)?),
+        [repeats] => library(number(repeats)?),
+        _ => Err(USAGE.to_string()),
+    }
+}
+
+fn library(repeats: usize) -> Result<(), String> {
     soundness::report(repeats);
     println!();
     night::report(repeats);
-    ExitCode::SUCCESS
+    Ok(())
+}
+
+fn main() -> ExitCode {
+    let arguments: Vec<String> = std::env::args().skip(1).collect();
+    let arguments: Vec<&str> = arguments.iter().map(String::as_str).collect();
+    match run(&arguments) {
+        Ok(()) => ExitCode::SUCCESS,
+        Err(problem) => {
+            eprintln!("{problem}");
+            ExitCode::FAILURE
+        }
+    }
 }

@@ -94,13 +94,7 @@ pub fn report(repeats: usize) {
 }
 
 fn line(program: &str, call: &Timing, check: &Timing) {
-    let per_second = |microseconds: f64| 1e6 / microseconds;
-    let (median, least, most) = (
-        per_second(call.median()),
-        per_second(call.most()),
-        per_second(call.least()),
-    );
-    let spread = format!("({least:.0} to {most:.0})");
+    let (median, spread) = call.per_second();
     let share = 100.0 * check.median() / call.median();
     println!("{program:<7} {median:>12.0} {spread:>24}  {call:<26} {share:>20.0} %");
 }

@@ -7,6 +7,12 @@ use std::time::Instant;
 pub struct Timing(Vec<f64>);
 
 impl Timing {
+    /// The times of one call, at least one and in any order.
+    pub fn of(mut times: Vec<f64>) -> Timing {
+        times.sort_by(f64::total_cmp);
+        Timing(times)
+    }
+
     pub fn median(&self) -> f64 {
         self.0[self.0.len() / 2]
     }
@@ -17,6 +23,16 @@ impl Timing {
 
     pub fn most(&self) -> f64 {
         self.0[self.0.len() - 1]
+    }
+}
+
+/// Calls a second: the median, and the least to the most.
+impl Timing {
+    pub fn per_second(&self) -> (f64, String) {
+        let per_second = |microseconds: f64| 1e6 / microseconds;
+        let (least, most) = (per_second(self.most()), per_second(self.least()));
+        let spread = format!("({least:.0} to {most:.0})");
+        (per_second(self.median()), spread)
     }
 }
 
@@ -41,8 +57,5 @@ pub fn measure<const N: usize>(
             times.push(began.elapsed().as_secs_f64() * 1e6 / calls as f64);
         }
     }
-    times.map(|mut times| {
-        times.sort_by(f64::total_cmp);
-        Timing(times)
-    })
+    times.map(Timing::of)
 }

@@ -1,5 +1,6 @@
 //! One call of the store, and its answer by either program.
 
+use crate::wire::HASH;
 use tack::raw;
 
 /// The arguments of a call besides the table.
@@ -101,7 +102,31 @@ impl Call {
 }
 
 impl Connection {
-    fn for_proved(&self) -> raw::Connection<'_> {
+    /// A finished connection without an extension, which passes every check of the caller.
+    pub fn at(clock: u32, name: &[u8]) -> Connection {
+        Connection {
+            clock: u64::from(clock),
+            name: name.to_vec(),
+            extension_came: false,
+            extension: vec![],
+            hash: HASH.to_vec(),
+            handshake_finished: true,
+            key_is_point: true,
+            signature_correct: true,
+            breaks_correct: 0xff,
+        }
+    }
+
+    /// The same with an extension.
+    pub fn with(self, extension: Vec<u8>) -> Connection {
+        Connection {
+            extension_came: true,
+            extension,
+            ..self
+        }
+    }
+
+    pub fn for_proved(&self) -> raw::Connection<'_> {
         raw::Connection {
             clock: self.clock,
             name: &self.name,
@@ -115,7 +140,20 @@ impl Connection {
         }
     }
 
-    fn for_second(&self) -> second::Connection<'_> {
+    pub fn for_safe_crate(&self) -> tack::table::Connection<'_> {
+        tack::table::Connection {
+            clock: self.clock,
+            name: &self.name,
+            extension: self.extension_came.then_some(&self.extension[..]),
+            spki_sha256: &self.hash,
+            handshake_finished: self.handshake_finished,
+            key_is_point: self.key_is_point,
+            signature_correct: self.signature_correct,
+            breaks_correct: self.breaks_correct,
+        }
+    }
+
+    pub fn for_second(&self) -> second::Connection<'_> {
         second::Connection {
             clock: self.clock,
             name: &self.name,

@@ -24,6 +24,58 @@ pub struct Mix {
     pub one_break_in: usize,
 }
 
+impl Mix {
+    /// A mix, of few names and keys, which meet, or of more than there are slots, and the number of calls in its list.
+    pub fn of_list(random: &mut Random) -> (Mix, u64) {
+        let step = *random.pick(&[1, 60, 60, 1_000, 1_000, 50_000]);
+        let any = random.up_to(LIMIT - 300 * step);
+        let first_clocks = [
+            0,
+            1,
+            1_000,
+            any,
+            any,
+            LIMIT - 300 * step,
+            LIMIT - step,
+            LIMIT,
+        ];
+        let few = Mix {
+            names: 1 + random.below(6),
+            keys: 1 + random.below(5),
+            name_family: random.below(pool::NAME_FAMILIES),
+            key_family: random.below(pool::KEY_FAMILIES),
+            one_recorded_key_in: 3,
+            first_clock: *random.pick(&first_clocks),
+            step,
+            one_deletion_in: 12,
+            one_start_in: 100,
+            one_break_in: 4,
+        };
+        // The name slots run out first.
+        let many_names = Mix {
+            names: 200,
+            keys: 80,
+            one_deletion_in: 60,
+            one_start_in: 5_000,
+            one_break_in: 300,
+            ..few
+        };
+        // The key slots do.
+        let many_keys = Mix {
+            names: 126,
+            keys: 250,
+            one_recorded_key_in: 10,
+            one_break_in: 800,
+            ..many_names
+        };
+        match random.below(4) {
+            0 => (many_names, 1_000),
+            1 => (many_keys, 1_000),
+            _ => (few, 300),
+        }
+    }
+}
+
 /// Chooses one call for a sound table.
 pub struct Choices<'a> {
     mix: &'a Mix,
@@ -76,13 +128,17 @@ impl<'a> Choices<'a> {
     }
 
     pub fn judgement(&mut self) -> Call {
+        Call::Judge(self.connection())
+    }
+
+    pub fn connection(&mut self) -> Connection {
         let name = self.name();
         let clock = self.clock(&name);
         let tack = (!self.random.one_in(6)).then(|| self.tack(&name, clock));
         let breaks = self.breaks(tack.as_ref());
         let activation = u8::from(!self.random.one_in(3));
         let extension = wire::extension(tack.as_ref(), &breaks, activation);
-        Call::Judge(Connection {
+        Connection {
             clock,
             name,
             extension_came: !self.random.one_in(10),
@@ -92,7 +148,7 @@ impl<'a> Choices<'a> {
             key_is_point: !self.is_wrong(),
             signature_correct: !self.is_wrong(),
             breaks_correct: self.breaks_correct(breaks.len()),
-        })
+        }
     }
 
     fn is_wrong(&mut self) -> bool {

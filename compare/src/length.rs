@@ -17,6 +17,7 @@ pub struct Progress {
     said: Duration,
     pub inputs: u64,
     pub calls: u64,
+    pub nights: u64,
 }
 
 impl Progress {
@@ -27,6 +28,7 @@ impl Progress {
             said: Duration::ZERO,
             inputs: 0,
             calls: 0,
+            nights: 0,
         }
     }
 
@@ -45,8 +47,9 @@ impl Progress {
                 Length::Inputs(inputs) => format!("of {inputs} and {}", inputs / 2),
                 Length::Minutes(minutes) => format!("of {minutes} minutes"),
             };
-            let (inputs, calls, seconds) = (self.inputs, self.calls, elapsed.as_secs());
-            eprintln!("{inputs} inputs and {calls} calls, {seconds} s, {of}");
+            let (inputs, calls, nights) = (self.inputs, self.calls, self.nights);
+            let seconds = elapsed.as_secs();
+            eprintln!("{inputs} inputs, {calls} calls and {nights} nights, {seconds} s, {of}");
         }
     }
 }

@@ -1,10 +1,9 @@
 //! Whole lists of calls from an empty table.
 
-use crate::area::{Area, KEY_SLOTS, LENGTH, LIMIT, NAME_SLOTS};
+use crate::area::{Area, KEY_SLOTS, LENGTH, NAME_SLOTS};
 use crate::both;
 use crate::call::{Answer, Call, Connection};
 use crate::choices::{Choices, Mix};
-use crate::pool;
 use crate::random::Random;
 use crate::tally::Tally;
 use tack::extension::Extension;
@@ -70,9 +69,9 @@ fn is_new_key(before: &Area, connection: &Connection, after: &Area) -> bool {
 }
 
 impl Lists {
-    /// One list, of few names and keys, which meet, or of more than there are slots.
+    /// One list, by one mix.
     pub fn list(&mut self, random: &mut Random) -> Result<u64, String> {
-        let (mix, length) = mix(random);
+        let (mix, length) = Mix::of_list(random);
         let mut area = Area::empty();
         let mut calls = 0;
         while calls < length {
@@ -129,55 +128,5 @@ fn place(area: &Area, random: &mut Random) -> usize {
         1 if !keys.is_empty() => 8 + 72 * random.pick(&keys) + random.below(72),
         2 if !names.is_empty() => 4616 + 272 * random.pick(&names) + random.below(20),
         _ => random.below(LENGTH),
-    }
-}
-
-/// A mix, and the number of calls in its list.
-fn mix(random: &mut Random) -> (Mix, u64) {
-    let step = *random.pick(&[1, 60, 60, 1_000, 1_000, 50_000]);
-    let any = random.up_to(LIMIT - 300 * step);
-    let first_clocks = [
-        0,
-        1,
-        1_000,
-        any,
-        any,
-        LIMIT - 300 * step,
-        LIMIT - step,
-        LIMIT,
-    ];
-    let few = Mix {
-        names: 1 + random.below(6),
-        keys: 1 + random.below(5),
-        name_family: random.below(pool::NAME_FAMILIES),
-        key_family: random.below(pool::KEY_FAMILIES),
-        one_recorded_key_in: 3,
-        first_clock: *random.pick(&first_clocks),
-        step,
-        one_deletion_in: 12,
-        one_start_in: 100,
-        one_break_in: 4,
-    };
-    // The name slots run out first.
-    let many_names = Mix {
-        names: 200,
-        keys: 80,
-        one_deletion_in: 60,
-        one_start_in: 5_000,
-        one_break_in: 300,
-        ..few
-    };
-    // The key slots do.
-    let many_keys = Mix {
-        names: 126,
-        keys: 250,
-        one_recorded_key_in: 10,
-        one_break_in: 800,
-        ..many_names
-    };
-    match random.below(4) {
-        0 => (many_names, 1_000),
-        1 => (many_keys, 1_000),
-        _ => (few, 300),
     }
 }

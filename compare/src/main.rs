@@ -1,42 +1,40 @@
-//! Runs the proved library and the second program on the same calls and compares every answer and every byte.
+//! Runs the proved library and the second program on the same calls and compares every answer and every byte; runs the
+//! proved program that replays a night, and the second one, on the same nights and compares every line.
 //!
-//! * `compare`: 200,000 extensions and names, and 100,000 calls on tables.
-//! * `compare INPUTS [SEED]`: so many extensions and names, and half as many calls.
+//! * `compare`: 200,000 extensions and names, 100,000 calls on tables, and some hundred nights.
+//! * `compare INPUTS [SEED]`: so many extensions and names, half as many calls, and some more nights with them.
 //! * `compare --minutes MINUTES [SEED]`: for so long.
+//! * `compare --nights NIGHTS [SEED]`: nights alone, every kind of them and so many at least.
 //!
-//! It ends with status 1 at the first difference, or if a number, a kind of damage or a full table never came.
+//! The proved program is `target/bin/replay`, unless `REPLAY_PROGRAM` names another. The comparison ends with status 1 at the
+//! first difference, or if a number, a kind of damage, of full table or of night never came.
 
-mod area;
-mod both;
-mod call;
-mod choices;
-mod damage;
-mod extensions;
-mod length;
-mod lists;
-mod names;
-mod pool;
-mod random;
-mod sound;
-mod spoil;
-mod tables;
-mod tally;
-mod wire;
-
-use length::{Length, Progress};
-use random::Random;
+use compare::length::{Length, Progress};
+use compare::nights::Nights;
+use compare::random::Random;
+use compare::{extensions, lists, names, tables};
 use std::process::ExitCode;
 
 /// Everything that is compared.
-#[derive(Default)]
 struct Comparison {
     extensions: extensions::Extensions,
     names: names::Names,
     tables: tables::Tables,
     lists: lists::Lists,
+    nights: Nights,
 }
 
 impl Comparison {
+    fn new(nights: Nights) -> Comparison {
+        Comparison {
+            extensions: extensions::Extensions::default(),
+            names: names::Names::default(),
+            tables: tables::Tables::default(),
+            lists: lists::Lists::default(),
+            nights,
+        }
+    }
+
     /// What every run begins with, however short.
     fn edges(&mut self, random: &mut Random, progress: &mut Progress) -> Result<(), String> {
         progress.inputs += self.extensions.edges(random)? + self.names.edges()?;
@@ -45,10 +43,12 @@ impl Comparison {
             progress.calls += self.lists.list(random)?;
             progress.say();
         }
+        progress.nights += self.nights.edges()?;
+        progress.say();
         Ok(())
     }
 
-    /// A list of calls, some tables, and twice as many extensions and names.
+    /// A list of calls, some tables, twice as many extensions and names, and a night.
     fn round(&mut self, random: &mut Random, progress: &mut Progress) -> Result<(), String> {
         progress.calls += self.lists.list(random)?;
         for _ in 0..5 {
@@ -57,6 +57,7 @@ impl Comparison {
         while progress.inputs < 2 * progress.calls {
             progress.inputs += self.extensions.case(random)? + self.names.case(random)?;
         }
+        progress.nights += self.nights.case()?;
         progress.say();
         Ok(())
     }
@@ -65,13 +66,38 @@ impl Comparison {
         self.extensions.finish()?;
         self.names.finish()?;
         self.tables.finish()?;
-        self.lists.finish()
+        self.lists.finish()?;
+        self.nights.finish()
     }
 }
 
-fn run(length: Length, seed: u64) -> Result<(), String> {
+/// What a run compares.
+enum Run {
+    Everything(Length),
+    /// Nights alone, so many at least.
+    Nights(u64),
+}
+
+fn run(run: Run, seed: u64) -> Result<(), String> {
+    let nights = Nights::new(seed)?;
+    match run {
+        Run::Everything(length) => everything(nights, length, seed),
+        Run::Nights(count) => nights_alone(nights, count, seed),
+    }
+}
+
+fn nights_alone(mut nights: Nights, count: u64, seed: u64) -> Result<(), String> {
+    let mut compared = nights.edges()?;
+    while compared < count {
+        compared += nights.case()?;
+    }
+    println!("{compared} nights, seed {seed}: no difference");
+    nights.finish()
+}
+
+fn everything(nights: Nights, length: Length, seed: u64) -> Result<(), String> {
     let mut random = Random::new(seed);
-    let mut comparison = Comparison::default();
+    let mut comparison = Comparison::new(nights);
     let mut progress = Progress::new(length);
     comparison.edges(&mut random, &mut progress)?;
     loop {
@@ -80,12 +106,12 @@ fn run(length: Length, seed: u64) -> Result<(), String> {
             break;
         }
     }
-    let (inputs, calls) = (progress.inputs, progress.calls);
-    println!("{inputs} inputs and {calls} calls, seed {seed}: no difference");
+    let (inputs, calls, nights) = (progress.inputs, progress.calls, progress.nights);
+    println!("{inputs} inputs, {calls} calls and {nights} nights, seed {seed}: no difference");
     comparison.finish()
 }
 
-const USAGE: &str = "compare [INPUTS [SEED]] | --minutes MINUTES [SEED]";
+const USAGE: &str = "compare [INPUTS [SEED]] | --minutes MINUTES [SEED] | --nights NIGHTS [SEED]";
 
 fn number(argument: &str) -> Result<u64, String> {
     let digits = argument.replace('_', "");
@@ -94,14 +120,20 @@ fn number(argument: &str) -> Result<u64, String> {
         .map_err(|_| format!("{USAGE}: {argument} is no number"))
 }
 
-/// The length and the seed that the arguments ask for.
-fn asked(arguments: &[&str]) -> Result<(Length, u64), String> {
-    match *arguments {
-        [] => Ok((Length::Inputs(200_000), 1)),
-        ["--minutes", minutes] => Ok((Length::Minutes(number(minutes)?), 1)),
-        ["--minutes", minutes, seed] => Ok((Length::Minutes(number(minutes)?), number(seed)?)),
-        [inputs] => Ok((Length::Inputs(number(inputs)?), 1)),
-        [inputs, seed] => Ok((Length::Inputs(number(inputs)?), number(seed)?)),
+/// The run and the seed that the arguments ask for.
+fn asked(arguments: &[&str]) -> Result<(Run, u64), String> {
+    let inputs = |inputs: u64| Run::Everything(Length::Inputs(inputs));
+    let (run, seed) = match arguments {
+        [] => (inputs(200_000), arguments),
+        ["--minutes", minutes, seed @ ..] => {
+            (Run::Everything(Length::Minutes(number(minutes)?)), seed)
+        }
+        ["--nights", nights, seed @ ..] => (Run::Nights(number(nights)?), seed),
+        [count, seed @ ..] => (inputs(number(count)?), seed),
+    };
+    match *seed {
+        [] => Ok((run, 1)),
+        [seed] => Ok((run, number(seed)?)),
         _ => Err(USAGE.to_string()),
     }
 }
@@ -109,7 +141,7 @@ fn asked(arguments: &[&str]) -> Result<(Length, u64), String> {
 fn main() -> ExitCode {
     let arguments: Vec<String> = std::env::args().skip(1).collect();
     let arguments: Vec<&str> = arguments.iter().map(String::as_str).collect();
-    match asked(&arguments).and_then(|(length, seed)| run(length, seed)) {
+    match asked(&arguments).and_then(|(asked, seed)| run(asked, seed)) {
         Ok(()) => ExitCode::SUCCESS,
         Err(problem) => {
             eprintln!("{problem}");

@@ -9,11 +9,16 @@ impl Random {
         Random(state.max(1))
     }
 
-    pub fn next(&mut self) -> u64 {
+    fn next(&mut self) -> u64 {
         self.0 ^= self.0 >> 12;
         self.0 ^= self.0 << 25;
         self.0 ^= self.0 >> 27;
         self.0.wrapping_mul(0x2545_f491_4f6c_dd1d)
+    }
+
+    /// A seed of other random choices.
+    pub fn seed(&mut self) -> u64 {
+        self.next()
     }
 
     /// A number below the bound, which is not 0.

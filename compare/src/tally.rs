@@ -8,7 +8,11 @@ pub struct Tally {
 
 impl Tally {
     pub fn add(&mut self, number: u8) {
-        self.counts[usize::from(number) % 32] += 1;
+        self.add_times(number, 1);
+    }
+
+    pub fn add_times(&mut self, number: u8, times: u64) {
+        self.counts[usize::from(number) % 32] += times;
     }
 
     /// Prints the counts, and gives the numbers that never came.

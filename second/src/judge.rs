@@ -1,7 +1,8 @@
 //! The judge: one finished connection, a lent pin table, a verdict.
 //!
 //! All refusals come before the first change, so a refused call leaves the
-//! table as it was.
+//! table as it was. The table is lent as an area, or kept parsed by a caller
+//! with many calls.
 
 use crate::answer::{
     alert_of, BREAK_SIGNATURE_INCORRECT, CLOCK_ABOVE_LIMIT, CLOCK_BEFORE_LATEST, CONFIRMED,
@@ -17,7 +18,7 @@ use crate::table::parse;
 
 /// What the caller knows of the connection. Answers for absent things are
 /// ignored.
-#[derive(Debug, Clone, Copy)]
+#[derive(Debug, Clone, Copy, PartialEq, Eq)]
 pub struct Connection<'a> {
     pub clock: u64,
     pub name: &'a [u8],
@@ -46,21 +47,38 @@ impl Judgement {
             no_room,
         }
     }
+
+    fn refusal(number: u8) -> Judgement {
+        Judgement::new(number, false)
+    }
 }
 
 pub fn judge(area: &mut [u8], connection: &Connection) -> Judgement {
-    let mut case = match Case::admit(area, connection) {
-        Ok(case) => case,
-        Err(refusal) => return Judgement::new(refusal, false),
-    };
+    judge_area(area, connection).unwrap_or_else(Judgement::refusal)
+}
+
+/// The same by a table that stays parsed from call to call.
+pub fn judge_kept(table: &mut PinTable, connection: &Connection) -> Judgement {
+    decide(table, connection).unwrap_or_else(Judgement::refusal)
+}
+
+fn judge_area(area: &mut [u8], connection: &Connection) -> Result<Judgement, u8> {
+    let mut table = parse(area).map_err(|damage| damage.number())?;
+    let judgement = decide(&mut table, connection)?;
+    table.write(area);
+    Ok(judgement)
+}
+
+/// A verdict, or the number of the refusal.
+fn decide(table: &mut PinTable, connection: &Connection) -> Result<Judgement, u8> {
+    let mut case = Case::admit(table, connection)?;
     let no_room = case.take_steps().is_err();
-    case.table.write(area);
-    Judgement::new(case.verdict(), no_room)
+    Ok(Judgement::new(case.verdict(), no_room))
 }
 
 /// A connection that no refusal applies to, with the table it is judged by.
 struct Case<'a> {
-    table: PinTable,
+    table: &'a mut PinTable,
     name: &'a [u8],
     clock: Minutes,
     extension: Extension,
@@ -68,8 +86,7 @@ struct Case<'a> {
 
 impl<'a> Case<'a> {
     /// The lowest number that applies is the refusal.
-    fn admit(area: &[u8], connection: &Connection<'a>) -> Result<Case<'a>, u8> {
-        let table = parse(area).map_err(|damage| damage.number())?;
+    fn admit(table: &'a mut PinTable, connection: &Connection<'a>) -> Result<Case<'a>, u8> {
         let name = connection.name;
         refuse_if(!is_well_formed(name), NAME_MALFORMED)?;
         let clock = Minutes::from_clock(connection.clock).ok_or(CLOCK_ABOVE_LIMIT)?;

@@ -7,6 +7,7 @@
 //!
 //! * [`extension`]: reader and writers of the TACK extension.
 //! * [`judge`](mod@judge): the verdict on one finished connection.
+//! * [`night`]: the calls of a recorded night, its report and its tally.
 //! * [`manage`]: deletion and inspection of a name, starting a table.
 //! * [`table`]: the lent area as bytes, and what makes it sound.
 //! * [`pins`]: the key records and name records behind it.
@@ -23,13 +24,15 @@ pub mod judge;
 pub mod manage;
 pub mod minutes;
 pub mod name;
+pub mod night;
 pub mod pins;
 pub mod table;
 
 pub use answer::alert_of;
 pub use extension::{BreakSignature, Extension, Reading, Span, Tack, Writing};
-pub use judge::{judge, Connection, Judgement};
+pub use judge::{judge, judge_kept, Connection, Judgement};
 pub use manage::{delete, inspect, start, Inspection, Outcome};
 pub use name::is_well_formed;
+pub use night::{read_call, replay, report, write_call, NotRecordable, Tally};
 pub use pins::PinTable;
 pub use table::{is_sound, parse, Damage, AREA_LENGTH};

@@ -48,6 +48,14 @@ pub fn breaking(keys: &[[u8; 64]]) -> Vec<u8> {
     extension(&[], &breaks, 0)
 }
 
+/// A field of a recorded call.
+pub fn field(tag: u8, value: &[u8]) -> Vec<u8> {
+    let mut bytes = vec![tag];
+    bytes.extend((value.len() as u16).to_be_bytes());
+    bytes.extend(value);
+    bytes
+}
+
 /// The arguments of one call of the judge; at first every check passes.
 #[derive(Clone)]
 pub struct Call {
@@ -80,8 +88,8 @@ impl Call {
         self
     }
 
-    pub fn judge(&self, area: &mut [u8]) -> Judgement {
-        let connection = Connection {
+    pub fn connection(&self) -> Connection<'_> {
+        Connection {
             clock: self.clock,
             name: &self.name,
             extension: self.extension.as_deref(),
@@ -90,8 +98,31 @@ impl Call {
             key_is_point: self.key_is_point,
             signature_correct: self.signature_correct,
             breaks_correct: self.breaks_correct,
-        };
-        judge(area, &connection)
+        }
+    }
+
+    pub fn judge(&self, area: &mut [u8]) -> Judgement {
+        judge(area, &self.connection())
+    }
+
+    /// The fields of the recorded call, the end among them.
+    pub fn fields(&self) -> Vec<Vec<u8>> {
+        let answers = u8::from(self.handshake_finished)
+            + 2 * u8::from(self.key_is_point)
+            + 4 * u8::from(self.signature_correct);
+        let mut fields = vec![
+            field(1, &(self.clock as u32).to_be_bytes()),
+            field(2, &self.name),
+            field(3, &[answers, self.breaks_correct]),
+            field(4, &self.hash),
+        ];
+        fields.extend(self.extension.iter().map(|bytes| field(5, bytes)));
+        fields.push(field(6, &[]));
+        fields
+    }
+
+    pub fn recorded(&self) -> Vec<u8> {
+        self.fields().concat()
     }
 
     /// The number, with nothing said about room.

@@ -1,0 +1,185 @@
+//! Nights of recorded calls, replayed by the proved program, by the second one, and by its `judge` on lent bytes.
+
+mod child;
+mod folder;
+mod lent;
+
+use crate::timing::Timing;
+use compare::call::Connection;
+use compare::make;
+use compare::nights::program;
+use folder::Folder;
+use std::fs::{self, File};
+use std::io::{self, BufWriter, Write};
+use std::path::{Path, PathBuf};
+use std::time::{Duration, Instant};
+
+const SEED: u64 = 1;
+
+/// Who replays a night from one file into another.
+enum Replayer {
+    Program(PathBuf),
+    LentBytes,
+}
+
+/// How long one replay took, and the peak of resident memory in kilobytes where it was watched.
+struct Run {
+    time: Duration,
+    peak: Option<u64>,
+}
+
+impl Replayer {
+    fn replay(&self, night: &Path, report: &Path) -> Result<Run, String> {
+        match self {
+            Replayer::Program(path) => child::replay(path, night, report),
+            Replayer::LentBytes => on_lent_bytes(night, report)
+                .map_err(|error| format!("the night cannot be replayed: {error}")),
+        }
+    }
+}
+
+fn on_lent_bytes(night: &Path, report: &Path) -> io::Result<Run> {
+    let began = Instant::now();
+    lent::replay(night, report)?;
+    Ok(Run {
+        time: began.elapsed(),
+        peak: None,
+    })
+}
+
+/// A replayer with the times of its calls in microseconds.
+struct Line {
+    name: &'static str,
+    does: &'static str,
+    replayer: Replayer,
+    times: Vec<f64>,
+    peak: Option<u64>,
+}
+
+impl Line {
+    fn new(name: &'static str, does: &'static str, replayer: Replayer) -> Line {
+        Line {
+            name,
+            does,
+            replayer,
+            times: vec![],
+            peak: None,
+        }
+    }
+
+    fn run(&mut self, night: &Night, report: &Path) -> Result<(), String> {
+        let Run { time, peak } = self.replayer.replay(&night.path, report)?;
+        let microseconds = time.as_secs_f64() * 1e6;
+        self.times.push(microseconds / night.calls as f64);
+        self.peak = self.peak.max(peak);
+        Ok(())
+    }
+
+    fn print(self) -> Timing {
+        let timing = Timing::of(self.times);
+        let (median, spread) = timing.per_second();
+        let peak = match self.peak {
+            Some(kilobytes) => format!("{kilobytes} kB"),
+            None => "not watched".to_string(),
+        };
+        let name = self.name;
+        println!("{name:<20} {median:>12.0} {spread:>24}  {timing:<26} {peak:>11}");
+        timing
+    }
+}
+
+fn lines() -> Result<[Line; 3], String> {
+    let proved = Replayer::Program(program::proved()?);
+    let second = Replayer::Program(program::second()?);
+    Ok([
+        Line::new(
+            "replay",
+            "the proved program; it works on the 39,432 bytes of a table, proved to stay sound, and checks them not once",
+            proved,
+        ),
+        Line::new(
+            "second_replay",
+            "the second program; it keeps its table parsed from call to call and checks nothing again",
+            second,
+        ),
+        Line::new(
+            "second on lent bytes",
+            "the second program's `judge`, in this process, on 39,432 bytes that it parses and writes in every call",
+            Replayer::LentBytes,
+        ),
+    ])
+}
+
+/// A made night.
+struct Night {
+    calls: usize,
+    path: PathBuf,
+}
+
+impl Night {
+    fn make(path: PathBuf, night: impl Iterator<Item = Connection>) -> Result<Night, String> {
+        let mut calls = 0;
+        let counted = night.inspect(|_| calls += 1);
+        let written = File::create(&path).and_then(|file| {
+            let mut out = BufWriter::new(file);
+            make::write(counted, &mut out)?;
+            out.flush()
+        });
+        match written {
+            Ok(()) => Ok(Night { calls, path }),
+            Err(error) => Err(format!("{} cannot be made: {error}", path.display())),
+        }
+    }
+}
+
+pub fn report(repeats: usize, calls: usize) -> Result<(), String> {
+    for line in lines()? {
+        println!("{}: {}", line.name, line.does);
+    }
+    println!("each reads the night from a file and writes its report into another");
+    let folder = Folder::new()?;
+    let few = Night::make(folder.file("few.bin"), make::few(calls as u64, SEED))?;
+    measure("a night of four names", repeats, &few, &folder)?;
+    let full = make::full(calls as u64 / 10, SEED);
+    let full = Night::make(folder.file("full.bin"), full)?;
+    measure("a night on a full table", repeats, &full, &folder)
+}
+
+fn measure(what: &str, repeats: usize, night: &Night, folder: &Folder) -> Result<(), String> {
+    let mut lines = lines()?;
+    run_in_turn(&mut lines, repeats, night, &folder.file("report"))?;
+    println!();
+    println!("{what}, {} calls: median of {repeats} repeats", night.calls);
+    println!(
+        "{:<20} {:>12} {:>24}  {:<26} {:>11}",
+        "", "calls/second", "(least to most)", "microseconds a call", "peak memory"
+    );
+    let [proved, second, lent] = lines.map(Line::print);
+    println!(
+        "a call of replay takes {:.2} times as long as one of second_replay, and {:.2} times as long as one on lent bytes",
+        proved.median() / second.median(),
+        proved.median() / lent.median()
+    );
+    Ok(())
+}
+
+/// One after the other and again, so that a slow moment of the machine meets all. Their reports must be the same.
+fn run_in_turn(
+    lines: &mut [Line],
+    repeats: usize,
+    night: &Night,
+    report: &Path,
+) -> Result<(), String> {
+    let mut expected = None;
+    for _ in 0..repeats {
+        for line in lines.iter_mut() {
+            line.run(night, report)?;
+            let reported = fs::read(report)
+                .map_err(|error| format!("{} cannot be read: {error}", report.display()))?;
+            if *expected.get_or_insert_with(|| reported.clone()) != reported {
+                return Err(format!("{} reports something else", line.name));
+            }
+        }
+    }
+    Ok(())
+}

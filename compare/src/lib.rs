@@ -1,0 +1,26 @@
+//! The proved library and programs beside the second program: the same inputs for both, and what is done with the answers.
+//!
+//! * [`extensions`], [`names`], [`tables`], [`lists`]: calls of the library, compared by the program `compare`.
+//! * [`nights`]: whole nights of recorded calls, by the proved program and the second one, compared by it too.
+//! * [`make`]: the maker of nights, also for the program `make_night` and for timing.
+//! * [`wire`], [`record`], [`area`]: the bytes of extensions, recorded calls and tables, without the help of either program.
+
+pub mod area;
+pub mod both;
+pub mod call;
+pub mod choices;
+pub mod damage;
+pub mod extensions;
+pub mod length;
+pub mod lists;
+pub mod make;
+pub mod names;
+pub mod nights;
+pub mod pool;
+pub mod random;
+pub mod record;
+pub mod sound;
+pub mod spoil;
+pub mod tables;
+pub mod tally;
+pub mod wire;
