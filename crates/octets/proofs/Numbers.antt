@@ -14,6 +14,16 @@ use Rattle.octets.specs.Octets.{part, bigEndian, number, numberAfter}
 abbrev pub Bytes : List ℕ → Type 0
 Bytes s = (i : ℕ) → getD s i 0 < 256
 
+-- what stands in front of bytes, and what stands behind
+pub bytes-front : (p r : List ℕ) → Bytes (p ++ r) → Bytes p
+bytes-front [] r h i = omega arith
+bytes-front (x ∷ p) r h zero = h 0
+bytes-front (x ∷ p) r h (suc i) = bytes-front p r (λ j. h (suc j)) i
+
+pub bytes-behind : (p r : List ℕ) → Bytes (p ++ r) → Bytes r
+bytes-behind [] r h = h
+bytes-behind (x ∷ p) r h = bytes-behind p r (λ j. h (suc j))
+
 pub bigEndian-length : (w v : ℕ) → length (bigEndian w v) ≡ w
 unfolding bigEndian
 bigEndian-length zero v = refl

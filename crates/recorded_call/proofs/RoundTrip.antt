@@ -11,7 +11,7 @@ use lib.ListN.{length, getD, length-append}
 use lib.Seq.{take-all, take-append-seam, drop-append-seam}
 use borrow.Author.Tests.{le-leb, eq-eqb}
 use Rattle.octets.specs.Octets.{part, number, bigEndian}
-use Rattle.octets.proofs.Numbers.{Bytes, number-bigEndian, bigEndian-number, bigEndian-two, bigEndian-length, number-four}
+use Rattle.octets.proofs.Numbers.{Bytes, bytes-front, bytes-behind, number-bigEndian, bigEndian-number, bigEndian-two, bigEndian-length, number-four}
 use Rattle.pin_model.specs.Judge.{Connection, connection, partsOf, tackShown, enabled, breaksShown, brokenKeys, judged, noRoom, verdict}
 use Rattle.pin_model.specs.Calls.{judge, refusal, answer, areaAfter}
 use Rattle.recorded_call.specs.RecordedCall.{Front, taken, andThen, field, answersField, extensionField, yes, called, recorded, fieldBytes, answerByte, extensionBytes, callBytes, recordable}
@@ -140,16 +140,6 @@ pub heard-same : (c : Connection) (area : List ℕ)
 heard-same c area =
     heard-by (c .clock) (c .name) (c .extensionCame) (c .extension) (c .hash) (c .handshakeFinished) (c .keyIsPoint)
     (c .signatureCorrect) (c .breaksCorrect) area
-
--- of bytes, those in front and those behind are bytes
-bytes-front : (p r : List ℕ) → Bytes (p ++ r) → Bytes p
-bytes-front [] r h i = omega arith
-bytes-front (x ∷ p) r h zero = h 0
-bytes-front (x ∷ p) r h (suc i) = bytes-front p r (λ j. h (suc j)) i
-
-bytes-behind : (p r : List ℕ) → Bytes (p ++ r) → Bytes r
-bytes-behind [] r h = h
-bytes-behind (x ∷ p) r h = bytes-behind p r (λ j. h (suc j))
 
 -- one field read and written back; its value and what is behind it are bytes again
 pub record FieldBytes (tag least most : ℕ) (s v r : List ℕ) : Type 0 where

@@ -8,10 +8,9 @@ use Prim.Native.Nat.{ℕ, zero, suc, _+_, _<_}
 use native.Mathlib.Omega.{arith}
 use lib.Dec.{leb}
 use lib.ListN.{length, take, drop, getD}
-use lib.Seq.{getD-append-add}
 use Rattle.octets.specs.Octets.{number, numberAfter, bigEndian}
 use Rattle.octets.proofs.Tests.{and-left, and-right, and-both}
-use Rattle.octets.proofs.Numbers.{Bytes, number-bigEndian, bigEndian-number, bigEndian-two}
+use Rattle.octets.proofs.Numbers.{Bytes, bytes-behind, number-bigEndian, bigEndian-number, bigEndian-two}
 use Rattle.tack_extension.specs.Extension.{Parts, parts, good, bytesOf, read, tackLength, breaksLength, tackStep, breaksStep, activationStep, afterTack, afterBreaks, afterActivation, parse}
 use Rattle.tack_extension.specs.Answers.{writing, output}
 use Rattle.tack_extension.specs.declared.writer.Writing.the-variants.{Written}
@@ -23,12 +22,6 @@ pub reads-good : (s : List ℕ) (p : Parts) → parse s ≡ some p → good p �
 reads-good s p h =
     let w = parsed s p h in
     and-both _ _ (w .tack .allowed) (and-both _ _ (w .breaks .allowed) (w .activation .small))
-
-bytes-tail : (x : ℕ) (s : List ℕ) → Bytes (x ∷ s) → Bytes s
-bytes-tail x s h i = h (suc i)
-
-bytes-behind : (p r : List ℕ) → Bytes (p ++ r) → Bytes r
-bytes-behind p r h i = rw (← (getD-append-add p r i 0)) (h (length p + i))
 
 two : (h l : ℕ) → h < 256 → l < 256 → (n : ℕ) → n ≡ number (h ∷ l ∷ []) → bigEndian 2 n ≡ h ∷ l ∷ []
 two h l hh hl n e = ap (bigEndian 2) e ∙ bigEndian-number (h ∷ l ∷ []) each
@@ -45,7 +38,7 @@ rewrites s p byte h =
     let w = parsed s p h in
     let inner : Bytes (length (p .tack) ∷ (p .tack ++ w .afterTack)) = rw (w .tack .bytes) byte in
     let after : Bytes (w .breaks .high ∷ (w .breaks .low ∷ (p .breaks ++ w .afterBreaks))) =
-    rw (w .breaks .bytes) (bytes-behind (p .tack) (w .afterTack) (bytes-tail (length (p .tack)) (p .tack ++ w .afterTack) inner)) in
+    rw (w .breaks .bytes) (bytes-behind (p .tack) (w .afterTack) (bytes-behind (length (p .tack) ∷ []) (p .tack ++ w .afterTack) inner)) in
     let digits : bigEndian 2 (length (p .breaks)) ≡ w .breaks .high ∷ w .breaks .low ∷ [] =
     two (w .breaks .high) (w .breaks .low) (after 0) (after 1) (length (p .breaks)) (w .breaks .size) in
     rw (digits, w .activation .bytes, w .breaks .bytes) (w .tack .bytes)
