@@ -53,15 +53,17 @@ returns c =
 
 returns-2 : tie.Need-returns-2
 returns-2 c =
-    let a = c .before .before .before .before .before .before .args in
+    let s = c .before .before .before .before .before .before in
+    let a = s .args in
     let w = played-cut (a .index) (now (a .area)) (now (a .night)) (now (a .out)) (a .at) _ (cut _ _ (c .before .before .take-call .ensures .0) (c .enum-told .given .1)) in
-    (w .turned, (w .judged, (w .written, (c .before .before .before .before .before .before .pre .1, cut-within _ _ (c .before .before .take-call .ensures .1) (c .enum-told .given .1)))))
+    (w .turned, (w .judged, (w .written, (s .pre .1, cut-within _ _ (c .before .before .take-call .ensures .1) (c .enum-told .given .1)))))
 
 returns-3 : tie.Need-returns-3
 returns-3 c =
-    let a = c .before .before .before .before .before .before .args in
+    let s = c .before .before .before .before .before .before in
+    let a = s .args in
     let w = played-bad (a .index) (now (a .area)) (now (a .night)) (now (a .out)) (a .at) _ (spoilt _ _ (c .before .before .take-call .ensures .0) (c .enum-told2 .given .1)) in
-    (w .turned, (w .judged, (w .written, (c .before .before .before .before .before .before .pre .1, tt))))
+    (w .turned, (w .judged, (w .written, (s .pre .1, tt))))
 
 pub play-call-spec : {M : Type 1} → statement M
 play-call-spec =

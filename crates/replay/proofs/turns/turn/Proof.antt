@@ -19,31 +19,45 @@ part-play-lending-end : tie.Need-part-play-lending-end
 part-play-lending-end c = search needs
 
 play-lending-requires : tie.Need-play-lending-requires
-play-lending-requires c κs = (omega (arith, c .before .before .before .before .before .before .before .before .pre .0 .room, c .before .before .before .before .before .before .before .before .pre .4), reached-sound (c .before .before .before .before .before .before .before .before .pre .2))
+play-lending-requires c κs =
+    let s = c .before .before .before .before .before .before .before .before in
+    (omega (arith, s .pre .0 .room, s .pre .4), reached-sound (s .pre .2))
 
 enum-known-turn : tie.Need-enum-known-turn
 enum-known-turn c = search needs
 
 add-t24 : tie.Need-add-t24
 add-t24 c =
-    let w = line-places (now (c .before .before .before .before .before .before .before .before .before .before .before .before .before .before .before .before .before .before .args .bytes)) (c .before .before .before .before .before .before .before .before .before .before .before .before .before .before .before .before .before .before .args .p .from) (c .before .before .before .before .before .before .before .before .before .before .before .before .before .before .before .before .before .before .args .p .to) (c .before .before .before .before .before .before .before .before .before .before .before .before .before .before .before .before .before .before .args .p .at) (c .before .before .before .before .before .before .before .before .before .before .before .before .before .before .before .before .before .before .pre .0 .start) (omega (arith, c .before .before .before .before .before .before .before .before .before .before .before .before .before .before .before .before .before .before .pre .0 .end, c .before .before .before .before .before .before .before .before .before .before .before .before .before .before .before .before .before .before .pre .3)) (c .before .before .before .before .before .before .before .before .before .play-lending .ensures .1 .1 .1 .1 .0) (c .before .before .turn .given .1) in
-    record { fits = omega (arith, w .0, c .before .before .before .before .before .before .before .before .before .before .before .before .before .before .before .before .before .before .pre .0 .end) }
+    let s = c .before .before .before .before .before .before .before .before .before .before .before .before .before .before .before .before .before .before in
+    let l = c .before .before .before .before .before .before .before .before .before .play-lending .ensures in
+    let w =
+    line-places (now (s .args .bytes)) (s .args .p .from) (s .args .p .to) (s .args .p .at) (s .pre .0 .start) (omega (arith, s .pre .0 .end, s .pre .3))
+    (l .1 .1 .1 .1 .0) (c .before .before .turn .given .1) in
+    record { fits = omega (arith, w .0, s .pre .0 .end) }
 
 add-t25 : tie.Need-add-t25
 add-t25 c = search needs
 
 make-room-requires : tie.Need-make-room-requires
 make-room-requires c κs =
-    let w = line-places (now (c .before .before .before .before .before .before .before .before .before .before .before .before .before .before .before .before .before .before .before .args .bytes)) (c .before .before .before .before .before .before .before .before .before .before .before .before .before .before .before .before .before .before .before .args .p .from) (c .before .before .before .before .before .before .before .before .before .before .before .before .before .before .before .before .before .before .before .args .p .to) (c .before .before .before .before .before .before .before .before .before .before .before .before .before .before .before .before .before .before .before .args .p .at) (c .before .before .before .before .before .before .before .before .before .before .before .before .before .before .before .before .before .before .before .pre .0 .start) (omega (arith, c .before .before .before .before .before .before .before .before .before .before .before .before .before .before .before .before .before .before .before .pre .0 .end, c .before .before .before .before .before .before .before .before .before .before .before .before .before .before .before .before .before .before .before .pre .3)) (c .before .before .before .before .before .before .before .before .before .before .play-lending .ensures .1 .1 .1 .1 .0) (c .before .before .before .turn .given .1) in
-    (w .0, c .before .before .before .before .before .before .before .before .before .before .before .before .before .before .before .before .before .before .before .pre .0 .end, omega (arith, w .1, c .before .before .before .before .before .before .before .before .before .before .before .before .before .before .before .before .before .before .before .pre .0 .room), omega (arith, c .before .before .before .before .before .before .before .before .before .before .before .before .before .before .before .before .before .before .before .pre .4))
+    let s = c .before .before .before .before .before .before .before .before .before .before .before .before .before .before .before .before .before .before .before in
+    let l = c .before .before .before .before .before .before .before .before .before .before .play-lending .ensures in
+    let w =
+    line-places (now (s .args .bytes)) (s .args .p .from) (s .args .p .to) (s .args .p .at) (s .pre .0 .start) (omega (arith, s .pre .0 .end, s .pre .3))
+    (l .1 .1 .1 .1 .0) (c .before .before .before .turn .given .1) in
+    (w .0, s .pre .0 .end, omega (arith, w .1, s .pre .0 .room), omega (arith, s .pre .4))
 
 enum-told : tie.Need-enum-told
 enum-told c = search needs
 
 read-more-requires : tie.Need-read-more-requires
 read-more-requires c κs =
-    let w = cut-places (now (c .before .before .before .before .before .before .before .before .before .before .before .before .before .before .before .before .before .before .args .bytes)) (c .before .before .before .before .before .before .before .before .before .before .before .before .before .before .before .before .before .before .args .p .from) (c .before .before .before .before .before .before .before .before .before .before .before .before .before .before .before .before .before .before .args .p .to) (c .before .before .before .before .before .before .before .before .before .before .before .before .before .before .before .before .before .before .args .p .at) (c .before .before .before .before .before .before .before .before .before .before .before .before .before .before .before .before .before .before .pre .0 .start) (omega (arith, c .before .before .before .before .before .before .before .before .before .before .before .before .before .before .before .before .before .before .pre .0 .end, c .before .before .before .before .before .before .before .before .before .before .before .before .before .before .before .before .before .before .pre .3)) (c .before .before .before .before .before .before .before .before .before .play-lending .ensures .1 .1 .1 .1 .0) (c .before .before .enum-told .given .1) in
-    (c .before .before .before .before .before .before .before .before .before .before .before .before .before .before .before .before .before .before .pre .0, w, c .before .before .before .before .before .before .before .before .before .before .before .before .before .before .before .before .before .before .pre .3, omega (arith, c .before .before .before .before .before .before .before .before .before .before .before .before .before .before .before .before .before .before .pre .4))
+    let s = c .before .before .before .before .before .before .before .before .before .before .before .before .before .before .before .before .before .before in
+    let l = c .before .before .before .before .before .before .before .before .before .play-lending .ensures in
+    let w =
+    cut-places (now (s .args .bytes)) (s .args .p .from) (s .args .p .to) (s .args .p .at) (s .pre .0 .start) (omega (arith, s .pre .0 .end, s .pre .3))
+    (l .1 .1 .1 .1 .0) (c .before .before .enum-told .given .1) in
+    (s .pre .0, w, s .pre .3, omega (arith, s .pre .4))
 
 enum-told-2 : tie.Need-enum-told-2
 enum-told-2 c = search needs
@@ -65,8 +79,12 @@ same-length-3 c = search needs
 
 returns : tie.Need-returns
 returns c =
+    let s = c .before .before .before .before .before .before .before .before .before .before .before .before .before .before .before .before .before .before .before .before in
+    let l = c .before .before .before .before .before .before .before .before .before .before .before .play-lending .ensures in
     let m = c .make-room .ensures in
-    let w = call-more (now (c .before .before .before .before .before .before .before .before .before .before .before .before .before .before .before .before .before .before .before .before .args .bytes)) (c .before .before .before .before .before .before .before .before .before .before .before .before .before .before .before .before .before .before .before .before .args .p .from) (c .before .before .before .before .before .before .before .before .before .before .before .before .before .before .before .before .before .before .before .before .args .p .to) (c .before .before .before .before .before .before .before .before .before .before .before .before .before .before .before .before .before .before .before .before .args .p .index) (c .before .before .before .before .before .before .before .before .before .before .before .before .before .before .before .before .before .before .before .before .args .p .at) (now (c .before .before .before .before .before .before .before .before .before .before .before .before .before .before .before .before .before .before .before .before .args .area)) (c .before .before .before .before .before .before .before .before .before .before .before .before .before .before .before .before .before .before .before .before .args .p .tally .counts) (c .before .before .before .before .before .before .before .before .before .before .before .before .before .before .before .before .before .before .before .before .pre .2) (c .before .before .before .before .before .before .before .before .before .before .before .play-lending .ensures .0) (c .before .before .before .before .before .before .before .before .before .before .before .play-lending .ensures .1 .0) (c .before .before .before .before .before .before .before .before .before .before .before .play-lending .ensures .1 .1 .1 .1 .1) (c .before .before .before .before .turn .given .1) in
+    let w =
+    call-more (now (s .args .bytes)) (s .args .p .from) (s .args .p .to) (s .args .p .index) (s .args .p .at) (now (s .args .area)) (s .args .p .tally .counts) (s .pre .2)
+    (l .0) (l .1 .0) (l .1 .1 .1 .1 .1) (c .before .before .before .before .turn .given .1) in
     (m .0, omega (arith, m .1), same-reached (m .1) (ap (λ (t : Tally). t .counts) (m .2)) w)
 
 same-length-4 : tie.Need-same-length-4
@@ -80,8 +98,12 @@ same-length-6 c = search needs
 
 returns-2 : tie.Need-returns-2
 returns-2 c =
+    let s = c .before .before .before .before .before .before .before .before .before .before .before .before .before .before .before .before .before .before .before .before .before .before .before in
+    let l = c .before .before .before .before .before .before .before .before .before .before .before .before .before .before .play-lending .ensures in
     let m = c .before .before .before .before .read-more .ensures in
-    let w = cut-same (now (c .before .before .before .before .before .before .before .before .before .before .before .before .before .before .before .before .before .before .before .before .before .before .before .args .bytes)) (c .before .before .before .before .before .before .before .before .before .before .before .before .before .before .before .before .before .before .before .before .before .before .before .args .p .from) (c .before .before .before .before .before .before .before .before .before .before .before .before .before .before .before .before .before .before .before .before .before .before .before .args .p .to) (c .before .before .before .before .before .before .before .before .before .before .before .before .before .before .before .before .before .before .before .before .before .before .before .args .p .index) (c .before .before .before .before .before .before .before .before .before .before .before .before .before .before .before .before .before .before .before .before .before .before .before .args .p .at) (now (c .before .before .before .before .before .before .before .before .before .before .before .before .before .before .before .before .before .before .before .before .before .before .before .args .area)) (c .before .before .before .before .before .before .before .before .before .before .before .before .before .before .before .before .before .before .before .before .before .before .before .args .p .tally .counts) (c .before .before .before .before .before .before .before .before .before .before .before .before .before .before .before .before .before .before .before .before .before .before .before .pre .2) (c .before .before .before .before .before .before .before .before .before .before .before .before .before .before .play-lending .ensures .0) (c .before .before .before .before .before .before .before .before .before .before .before .before .before .before .play-lending .ensures .1 .0) (c .before .before .before .before .before .before .before .enum-told .given .1) in
+    let w =
+    cut-same (now (s .args .bytes)) (s .args .p .from) (s .args .p .to) (s .args .p .index) (s .args .p .at) (now (s .args .area)) (s .args .p .tally .counts) (s .pre .2)
+    (l .0) (l .1 .0) (c .before .before .before .before .before .before .before .enum-told .given .1) in
     (m .0, omega (arith, m .1), same-reached (m .1) (ap (λ (t : Tally). t .counts) (m .2)) w)
 
 same-length-7 : tie.Need-same-length-7
@@ -95,8 +117,12 @@ same-length-9 c = search needs
 
 returns-3 : tie.Need-returns-3
 returns-3 c =
+    let s = c .before .before .before .before .before .before .before .before .before .before .before .before .before .before .before .before .before .before .before .before .before in
+    let l = c .before .before .before .before .before .before .before .before .before .before .before .before .play-lending .ensures in
     let m = c .stopped .ensures in
-    let w = bad-same (now (c .before .before .before .before .before .before .before .before .before .before .before .before .before .before .before .before .before .before .before .before .before .args .bytes)) (c .before .before .before .before .before .before .before .before .before .before .before .before .before .before .before .before .before .before .before .before .before .args .p .from) (c .before .before .before .before .before .before .before .before .before .before .before .before .before .before .before .before .before .before .before .before .before .args .p .to) (c .before .before .before .before .before .before .before .before .before .before .before .before .before .before .before .before .before .before .before .before .before .args .p .index) (c .before .before .before .before .before .before .before .before .before .before .before .before .before .before .before .before .before .before .before .before .before .args .p .at) (now (c .before .before .before .before .before .before .before .before .before .before .before .before .before .before .before .before .before .before .before .before .before .args .area)) (c .before .before .before .before .before .before .before .before .before .before .before .before .before .before .before .before .before .before .before .before .before .args .p .tally .counts) (c .before .before .before .before .before .before .before .before .before .before .before .before .before .before .before .before .before .before .before .before .before .pre .2) (c .before .before .before .before .before .before .before .before .before .before .before .before .play-lending .ensures .0) (c .before .before .before .before .before .before .before .before .before .before .before .before .play-lending .ensures .1 .0) (c .before .before .before .before .before .before .before .before .before .before .before .before .play-lending .ensures .1 .1 .1 .1 .1) (c .before .before .before .before .before .enum-told2 .given .1) in
+    let w =
+    bad-same (now (s .args .bytes)) (s .args .p .from) (s .args .p .to) (s .args .p .index) (s .args .p .at) (now (s .args .area)) (s .args .p .tally .counts) (s .pre .2)
+    (l .0) (l .1 .0) (l .1 .1 .1 .1 .1) (c .before .before .before .before .before .enum-told2 .given .1) in
     (m .0, omega (arith, m .1), same-reached (m .1) (ap (λ (t : Tally). t .counts) (m .2)) w)
 
 pub turn-spec : {M : Type 1} → statement M
