@@ -1,4 +1,4 @@
-//! Nights of recorded calls, replayed by the proved program, by the second one, and by its `judge` on lent bytes.
+//! Nights of recorded calls, replayed by the proved program, by the second one, and by the `judge` of each on lent bytes.
 
 mod child;
 mod folder;
@@ -19,7 +19,7 @@ const SEED: u64 = 1;
 /// Who replays a night from one file into another.
 enum Replayer {
     Program(PathBuf),
-    LentBytes,
+    LentBytes(lent::Judge),
 }
 
 /// How long one replay took, and the peak of resident memory in kilobytes where it was watched.
@@ -32,15 +32,15 @@ impl Replayer {
     fn replay(&self, night: &Path, report: &Path) -> Result<Run, String> {
         match self {
             Replayer::Program(path) => child::replay(path, night, report),
-            Replayer::LentBytes => on_lent_bytes(night, report)
+            Replayer::LentBytes(judge) => on_lent_bytes(night, report, *judge)
                 .map_err(|error| format!("the night cannot be replayed: {error}")),
         }
     }
 }
 
-fn on_lent_bytes(night: &Path, report: &Path) -> io::Result<Run> {
+fn on_lent_bytes(night: &Path, report: &Path, judge: lent::Judge) -> io::Result<Run> {
     let began = Instant::now();
-    lent::replay(night, report)?;
+    lent::replay(night, report, judge)?;
     Ok(Run {
         time: began.elapsed(),
         peak: None,
@@ -88,7 +88,7 @@ impl Line {
     }
 }
 
-fn lines() -> Result<[Line; 3], String> {
+fn lines() -> Result<[Line; 4], String> {
     let proved = Replayer::Program(program::proved()?);
     let second = Replayer::Program(program::second()?);
     Ok([
@@ -103,9 +103,14 @@ fn lines() -> Result<[Line; 3], String> {
             second,
         ),
         Line::new(
+            "proved on lent bytes",
+            "the proved library's `judge`, in this process, on 39,432 bytes that it checks in every call",
+            Replayer::LentBytes(lent::by_proved),
+        ),
+        Line::new(
             "second on lent bytes",
             "the second program's `judge`, in this process, on 39,432 bytes that it parses and writes in every call",
-            Replayer::LentBytes,
+            Replayer::LentBytes(lent::by_second),
         ),
     ])
 }
@@ -154,11 +159,11 @@ fn measure(what: &str, repeats: usize, night: &Night, folder: &Folder) -> Result
         "{:<20} {:>12} {:>24}  {:<26} {:>11}",
         "", "calls/second", "(least to most)", "microseconds a call", "peak memory"
     );
-    let [proved, second, lent] = lines.map(Line::print);
+    let [proved, second, proved_lent, second_lent] = lines.map(Line::print);
     println!(
-        "a call of replay takes {:.2} times as long as one of second_replay, and {:.2} times as long as one on lent bytes",
+        "a call of replay takes {:.2} times as long as one of second_replay; on lent bytes a proved call takes {:.2} times as long as a second",
         proved.median() / second.median(),
-        proved.median() / lent.median()
+        proved_lent.median() / second_lent.median()
     );
     Ok(())
 }
