@@ -42,7 +42,7 @@ abbrev pub extensionField : List ℕ → Front (Option (List ℕ))
 extensionField s =
     cond (tagged 5 s) (andThen (field 5 0 4096 s) (λ extension rest. taken (some extension) rest)) (taken none s)
 
--- the connection of these fields; bit i of the answers' first byte is a yes
+-- the connection of these fields; a bit that is set in the answers' first byte is a yes: the powers 1, 2, 4 are the bits 0, 1, 2
 abbrev pub yes : ℕ → List ℕ → Bool
 yes power answers = eqb (getD answers 0 0 / power % 2) 1
 
@@ -74,6 +74,7 @@ answerByte finished point correct = cond finished 1 0 + (cond point 2 0 + cond c
 abbrev pub extensionBytes : Bool → List ℕ → List ℕ
 extensionBytes came extension = cond came (fieldBytes 5 extension) []
 
+-- 'A call is, in this order'
 unfoldable pub callBytes : Connection → List ℕ
 callBytes c =
     fieldBytes 1 (bigEndian 4 (c .clock))

@@ -11,6 +11,7 @@ use Rattle.replay.specs.declared.input.Filled.{Filled}
 use Rattle.replay.specs.declared.input.Filled.the-variants as filled
 use Rattle.replay.specs.declared.turns.Progress.{Progress}
 
+-- a read ends within the buffer
 abbrev pub FilledWithin : ℕ → Filled → Type 0
 FilledWithin size (filled.To end) = end ≤ size
 FilledWithin size filled.Ended = Unit
@@ -22,14 +23,15 @@ pub record InOrder (p : Progress) : Type 0 where
   pub end : p .to ≤ 65536
   pub room : p .at + 31 ≤ 65536
 
--- the calls played so far, the newest first: they left this area, the index is their number, and the tally counts their answers
+-- the calls played so far, the newest first: they left this area, the index is their number, and the tally counts their answers.
+-- Which calls they are no contract can say, since none says what is read: it is one list for all three.
 pub record Reached (area : List ℕ) (index : ℕ) (counts : List ℕ) : Type 0 where
   pub calls : List Call
   pub left : area ≡ areaOf calls
   pub number : index ≡ length calls
   pub tally : counts ≡ tallied (numbers calls)
 
--- the tally of the answers to some calls from an empty table
+-- the tally of the answers to some list of calls from an empty table; by itself it does not say which
 pub record Tallied (counts : List ℕ) : Type 0 where
   pub calls : List Call
   pub tally : counts ≡ tallied (numbers calls)
