@@ -5,4 +5,8 @@ pub mod Labels
 pub mod Places
 pub mod Moved
 pub mod Names
+pub mod Folded
+pub mod Cut
 pub mod Refused
+pub mod Small
+pub mod Spellings

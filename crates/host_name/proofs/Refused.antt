@@ -1,4 +1,4 @@
--- 'Upper case and a final dot are refused.' Assumes nothing.
+-- 'Upper case and a final dot are refused', of a name as it stands: a call's name is folded before. Assumes nothing.
 use mathlib.Core.Path.{_≡_}
 use mathlib.Core.Bool.{Bool, false, and-false}
 use mathlib.Core.List.{List, [], _∷_, _++_}
@@ -31,10 +31,14 @@ not-all : (p : ℕ → Bool) (s t : List ℕ) (b : ℕ) → p b ≡ false → al
 not-all p [] t b e = simp e
 not-all p (a ∷ s) t b e = simp (not-all p s t b e, and-false)
 
-pub upper-case : (s t : List ℕ) (b : ℕ) → 65 ≤ b → b ≤ 90 → wellFormed (s ++ (b ∷ t)) ≡ false
-unfolding wellFormed
-upper-case s t b low high =
+-- no capital is a byte of a name
+pub upper-byte : (b : ℕ) → 65 ≤ b → b ≤ 90 → nameByte b ≡ false
+upper-byte b low high =
     let l : letterOrDigit b ≡ false = simp (lt-leb 97 b (omega arith), lt-leb b 57 (omega arith), and-false) in
     let d : eqb b dot ≡ false = ne-eqb b dot (λ e. omega arith) in
     let y : eqb b hyphen ≡ false = ne-eqb b hyphen (λ e. omega arith) in
-    simp (bytes-refused (s ++ (b ∷ t)) (not-all nameByte s t b (simp (l, y, d))), and-false)
+    simp (l, y, d)
+
+pub upper-case : (s t : List ℕ) (b : ℕ) → 65 ≤ b → b ≤ 90 → wellFormed (s ++ (b ∷ t)) ≡ false
+unfolding wellFormed
+upper-case s t b low high = simp (bytes-refused (s ++ (b ∷ t)) (not-all nameByte s t b (upper-byte b low high)), and-false)

@@ -1,4 +1,6 @@
 // Host names: a name is a label, or a label, a dot and a name.
+pub mod folding;
+
 ghost use mathlib.Core.Path.{_≡_};
 ghost use mathlib.Core.Bool.{true};
 ghost use Prim.Native.Nat.{_+_, _≤_, _<_};
@@ -79,8 +81,9 @@ fn after_dot(name: &[u8; 256], at: usize) -> bool
     false
 }
 
-// Whether the bytes are a name of at most 253 bytes. They are checked at the end of an array, a reference to which goes in
-// a register, so that the calls of the two functions compile to a loop: with a slice each label would keep a frame.
+// Whether the bytes as they stand are a name of at most 253 bytes. They are checked at the end of an array, a reference to
+// which goes in a register, so that the calls of the two functions compile to a loop: with a slice each label would keep a
+// frame.
 pub fn well_formed(name: &[u8]) -> bool
     ensures { λ r. ⌜ r ≡ wellFormed (now (name .entry)) ⌝ }
 {
