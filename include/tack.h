@@ -67,13 +67,15 @@ tack_writing tack_extension_write(const uint8_t *tack, size_t tack_length,
 /* Writes the 110 bytes that the signature of a tack covers, for a verifier. */
 tack_writing tack_signed_bytes(const uint8_t *tack, size_t tack_length, uint8_t *out, size_t out_length);
 
-/* Whether the bytes are a host name that the store takes: labels of 1 to 63 bytes of a-z, 0-9 and hyphen, no hyphen first or
- * last, joined by dots, 253 bytes at most. */
+/* Whether the bytes are a host name that the store takes: labels of 1 to 63 bytes of letters, 0-9 and hyphen, no hyphen first
+ * or last, joined by dots, 253 bytes at most. The letters are of either case: A-Z is taken as a-z, here and in judging,
+ * deletion and inspection. */
 bool tack_name_well_formed(const uint8_t *name, size_t length);
 
 /* The pin table is an area of 39,432 bytes that the caller keeps, in memory or in a file, and lends to each call; all zero is
- * the empty table. An area of another length is 10, a damaged table 11, and a refusal leaves the area as it was. Clocks are
- * whole minutes since 1970, 4,294,924,095 at most; above that it is 13. */
+ * the empty table. An area of another length is 10, a damaged table 11, and a refusal leaves the area as it was. The table
+ * keeps names in small letters only; one that holds a capital is damaged. Clocks are whole minutes since 1970, 4,294,924,095 at
+ * most; above that it is 13. */
 #define TACK_TABLE_LENGTH 39432
 
 /* The refusals, the alert in brackets where there is one. Where several apply the lowest is given. 18 to 23 need a tack.
@@ -110,10 +112,10 @@ tack_outcome tack_start(uint8_t *table, size_t table_length);
 /* So many bytes are always enough for one recorded call. */
 #define TACK_LONGEST_CALL 4452
 
-/* Writes one call as a gateway records it: the arguments of tack_judge besides the table. A night of recorded calls, one
- * behind the other, is what the program `replay` reads. 9 with the number of bytes written; 25 where a part cannot be
- * recorded: a clock above 32 bits, a name above 300 bytes, a hash that is not of 32 bytes, an extension that came and is above
- * 4,096 bytes; 26 where there is no space. */
+/* Writes one call as a gateway records it: the arguments of tack_judge besides the table, the name as it is spelled. A night of
+ * recorded calls, one behind the other, is what the program `replay` reads. 9 with the number of bytes written; 25 where a part
+ * cannot be recorded: a clock above 32 bits, a name above 300 bytes, a hash that is not of 32 bytes, an extension that came and
+ * is above 4,096 bytes; 26 where there is no space. */
 tack_writing tack_call_write(uint64_t clock, const uint8_t *name, size_t name_length,
                              bool extension_came, const uint8_t *extension, size_t extension_length,
                              const uint8_t *spki_sha256, size_t spki_sha256_length,

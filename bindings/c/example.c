@@ -14,6 +14,7 @@ int main(void) {
     const tack_writing written = tack_extension_write(NULL, 0, NULL, 0, 0, out, sizeof out);
     const tack_writing signed_bytes = tack_signed_bytes(NULL, 0, out, sizeof out);
     const uint8_t name[] = {'a', '.', 'b'};
+    const uint8_t in_capitals[] = {'A', '.', 'B'};
     const uint8_t hash[32] = {0};
     uint8_t call[TACK_LONGEST_CALL];
     const tack_writing recorded = tack_call_write(1000, name, sizeof name, false, NULL, 0, hash, sizeof hash,
@@ -25,7 +26,7 @@ int main(void) {
     printf("%zu %zu %zu %zu\n", tack.start, tack.length, breaks.start, breaks.length);
     printf("%d %d %zu %d%d%d%d\n", written.number, written.alert, written.written, out[0], out[1], out[2], out[3]);
     printf("%d %d %zu\n", signed_bytes.number, signed_bytes.alert, signed_bytes.written);
-    printf("%d\n", tack_name_well_formed(name, sizeof name));
+    printf("%d %d\n", tack_name_well_formed(name, sizeof name), tack_name_well_formed(in_capitals, sizeof in_capitals));
     printf("%d %d %zu\n", recorded.number, recorded.alert, recorded.written);
     return 0;
 }

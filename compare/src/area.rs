@@ -1,5 +1,7 @@
 //! The bytes of a pin table by slots, as the comparison builds, reads and damages them.
 
+use crate::spelling;
+
 pub const LENGTH: usize = tack::table::AREA_LENGTH;
 pub const KEY_SLOTS: usize = 64;
 pub const NAME_SLOTS: usize = 128;
@@ -9,6 +11,8 @@ pub const LIMIT: u32 = 4_294_924_095;
 pub const LONGEST: u32 = 43_200;
 
 const FIRST_NAME: usize = 4616;
+/// The bytes of a name slot.
+const NAME_SLOT: usize = 272;
 
 pub type Key = [u8; 64];
 
@@ -50,11 +54,11 @@ impl Area {
     }
 
     pub fn name_slot(&self, slot: usize) -> &[u8] {
-        &self.bytes[FIRST_NAME + 272 * slot..][..272]
+        &self.bytes[FIRST_NAME + NAME_SLOT * slot..][..NAME_SLOT]
     }
 
     pub fn name_slot_mut(&mut self, slot: usize) -> &mut [u8] {
-        &mut self.bytes[FIRST_NAME + 272 * slot..][..272]
+        &mut self.bytes[FIRST_NAME + NAME_SLOT * slot..][..NAME_SLOT]
     }
 
     pub fn used_keys(&self) -> Vec<usize> {
@@ -84,11 +88,12 @@ impl Area {
     }
 
     pub fn name(&self, slot: usize) -> &[u8] {
-        let bytes = self.name_slot(slot);
-        &bytes[16..][..usize::from(bytes[2])]
+        name_in(self.name_slot(slot))
     }
 
+    /// The slot of a name in any spelling.
     pub fn find_name(&self, name: &[u8]) -> Option<usize> {
+        let name = spelling::small(name);
         (0..NAME_SLOTS).find(|&slot| self.name_slot(slot)[0] == 1 && self.name(slot) == name)
     }
 
@@ -123,6 +128,17 @@ impl Area {
         bytes[16..269].fill(0);
         bytes[16..][..name.len()].copy_from_slice(name);
     }
+}
+
+/// The first used name slot of an area, lent as bytes, whose name has a capital.
+pub fn capital(area: &[u8]) -> Option<usize> {
+    let mut slots = area.get(FIRST_NAME..)?.chunks_exact(NAME_SLOT);
+    slots.position(|slot| slot[0] == 1 && spelling::has_capital(name_in(slot)))
+}
+
+/// The name in the bytes of a name slot.
+fn name_in(slot: &[u8]) -> &[u8] {
+    &slot[16..][..usize::from(slot[2])]
 }
 
 fn number(bytes: &[u8]) -> u32 {

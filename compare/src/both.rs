@@ -1,28 +1,88 @@
 //! One call by both programs on the same bytes.
 
-use crate::call::{Answer, Call};
+use crate::area;
+use crate::call::{Answer, By, Call};
 use tack::table::{Refusal, Verdict};
 
 /// Runs the call by both and compares every field of the answer and every byte of the table, which is left as both left it.
 pub fn call(table: &mut [u8], call: &Call) -> Result<Answer, String> {
-    let before = table.to_vec();
-    let mut other = before.clone();
-    let (proved, second) = (call.proved(table), call.second(&mut other));
-    let problem = if proved != second {
-        format!("the answers differ: proved {proved:?}, second {second:?}")
-    } else if let Some(at) = first_difference(table, &other) {
-        let (one, two) = (table[at], other[at]);
-        format!(
-            "the tables differ at byte {at}: proved {one}, second {two}; both answered {proved:?}"
-        )
-    } else if !is_kept(proved.number, &before, table) {
-        format!("both changed the table with {proved:?}")
-    } else if alert(proved.number) != proved.alert {
-        format!("the safe crate gives another alert than {proved:?}")
+    let given = by_both(call, table)
+        .map_err(|problem| format!("{problem}; numbers in hexadecimal: {call:02x?}"))?;
+    table.copy_from_slice(&given.table);
+    Ok(given.answer)
+}
+
+fn by_both(call: &Call, before: &[u8]) -> Result<Given, String> {
+    let [proved, second] = [By::Proved, By::Second].map(|program| by(program, call, before));
+    let (proved, second) = (proved?, second?);
+    proved.same_as(&second, ["proved", "second"])?;
+    let answer = proved.answer;
+    if !is_kept(answer.number, before, &proved.table) {
+        Err(format!("both changed the table with {answer:?}"))
+    } else if alert(answer.number) != answer.alert {
+        Err(format!(
+            "the safe crate gives another alert than {answer:?}"
+        ))
     } else {
-        return Ok(proved);
-    };
-    Err(format!("{problem}; numbers in hexadecimal: {call:02x?}"))
+        Ok(proved)
+    }
+}
+
+/// The call by one program: its table keeps small letters only, and capitals in the call's name make no difference. Each call
+/// of a list so gets the table that the list in small letters would give it, and leaves the table that it would leave.
+fn by(program: By, call: &Call, before: &[u8]) -> Result<Given, String> {
+    let of_program = |problem| format!("{program:?}: {problem}");
+    let given = Given::new(program, call, before);
+    given.keeps_small_letters().map_err(of_program)?;
+    if call.has_capital() {
+        let small = Given::new(program, &call.in_small_letters(), before);
+        given
+            .same_as(&small, ["as spelled", "in small letters"])
+            .map_err(of_program)?;
+    }
+    Ok(given)
+}
+
+/// An answer, and the table after it.
+struct Given {
+    answer: Answer,
+    table: Vec<u8>,
+}
+
+impl Given {
+    fn new(program: By, call: &Call, before: &[u8]) -> Given {
+        let mut table = before.to_vec();
+        let answer = call.by(program, &mut table);
+        Given { answer, table }
+    }
+
+    /// Every field and every byte; the names say whose they are.
+    fn same_as(&self, other: &Given, [one, two]: [&str; 2]) -> Result<(), String> {
+        if self.answer != other.answer {
+            let (answer, other) = (self.answer, other.answer);
+            return Err(format!(
+                "the answers differ: {one} {answer:?}, {two} {other:?}"
+            ));
+        }
+        match first_difference(&self.table, &other.table) {
+            None => Ok(()),
+            Some(at) => Err(format!(
+                "the tables differ at byte {at}: {one} {}, {two} {}; both answered {:?}",
+                self.table[at], other.table[at], self.answer
+            )),
+        }
+    }
+
+    /// No capital stands in a name; only a table that is refused itself may hold one.
+    fn keeps_small_letters(&self) -> Result<(), String> {
+        let answer = self.answer;
+        match area::capital(&self.table) {
+            Some(slot) if !matches!(answer.number, 10 | 11) => Err(format!(
+                "a capital stands in name slot {slot} after {answer:?}"
+            )),
+            _ => Ok(()),
+        }
+    }
 }
 
 fn first_difference(one: &[u8], two: &[u8]) -> Option<usize> {

@@ -1,5 +1,6 @@
 //! One call of the store, and its answer by either program.
 
+use crate::spelling;
 use crate::wire::HASH;
 use tack::raw;
 
@@ -24,6 +25,13 @@ pub struct Connection {
     pub key_is_point: bool,
     pub signature_correct: bool,
     pub breaks_correct: u8,
+}
+
+/// The program that makes a call.
+#[derive(Debug, Clone, Copy)]
+pub enum By {
+    Proved,
+    Second,
 }
 
 /// Every field of every answer; what a call does not answer stays 0.
@@ -82,7 +90,14 @@ answers!(raw::Judgement, raw::Outcome, raw::Inspection);
 answers!(second::Judgement, second::Outcome, second::Inspection);
 
 impl Call {
-    pub fn proved(&self, table: &mut [u8]) -> Answer {
+    pub fn by(&self, program: By, table: &mut [u8]) -> Answer {
+        match program {
+            By::Proved => self.proved(table),
+            By::Second => self.second(table),
+        }
+    }
+
+    fn proved(&self, table: &mut [u8]) -> Answer {
         match self {
             Call::Judge(connection) => raw::judge(table, &connection.for_proved()).into(),
             Call::Delete { name } => raw::delete(table, name).into(),
@@ -91,13 +106,38 @@ impl Call {
         }
     }
 
-    pub fn second(&self, table: &mut [u8]) -> Answer {
+    fn second(&self, table: &mut [u8]) -> Answer {
         match self {
             Call::Judge(connection) => second::judge(table, &connection.for_second()).into(),
             Call::Delete { name } => second::delete(table, name).into(),
             Call::Inspect { name, clock } => second::inspect(table, name, *clock).into(),
             Call::Start => second::start(table).into(),
         }
+    }
+
+    /// The name that the call is about; starting is about none.
+    pub fn name(&self) -> Option<&[u8]> {
+        match self {
+            Call::Judge(connection) => Some(&connection.name),
+            Call::Delete { name } | Call::Inspect { name, .. } => Some(name),
+            Call::Start => None,
+        }
+    }
+
+    pub fn has_capital(&self) -> bool {
+        self.name().is_some_and(spelling::has_capital)
+    }
+
+    /// The same call with its name in small letters.
+    pub fn in_small_letters(&self) -> Call {
+        let mut call = self.clone();
+        match &mut call {
+            Call::Judge(Connection { name, .. })
+            | Call::Delete { name }
+            | Call::Inspect { name, .. } => *name = spelling::small(name),
+            Call::Start => {}
+        }
+        call
     }
 }
 

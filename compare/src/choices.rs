@@ -4,6 +4,7 @@ use crate::area::{Area, Key, LIMIT, LONGEST, NAME_SLOTS};
 use crate::call::{Call, Connection};
 use crate::pool;
 use crate::random::Random;
+use crate::spelling;
 use crate::wire::{self, Tack, HASH};
 
 /// How the calls on a table are mixed.
@@ -155,7 +156,7 @@ impl<'a> Choices<'a> {
         self.random.one_in(self.one_wrong_in)
     }
 
-    /// A recorded name, more often in a full table, one of the pool, or a malformed one.
+    /// A recorded name, more often in a full table, one of the pool, or a malformed one; in any spelling.
     fn name(&mut self) -> Vec<u8> {
         let used = self.area.used_names();
         let mut name = if self.random.below(2 * NAME_SLOTS) < used.len() {
@@ -170,10 +171,10 @@ impl<'a> Choices<'a> {
                 1 => name.push(b'.'),
                 2 => name.resize(254, b'a'),
                 3 => name[0] = b'-',
-                _ => name[0] = b'A',
+                _ => name[0] = *self.random.pick(pool::BESIDE_LETTERS),
             }
         }
-        name
+        spelling::any(name, self.random)
     }
 
     fn clock(&mut self, name: &[u8]) -> u64 {

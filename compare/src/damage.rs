@@ -133,6 +133,8 @@ pub const KINDS: &[Kind] = kinds! {
     "last three bytes of a name slot", UsedName, [NameSlotEndNotZero], name_slot_end;
     "two equal names", UsedName, [NameTwice], name_twice;
     "malformed name", UsedName, [NameMalformed], name_malformed;
+    "capitals in a name", UsedName, [NameMalformed], name_in_capitals;
+    "two spellings of one name", UsedName, [NameMalformed], name_in_two_spellings;
     "used byte of a free name slot", FreeName, [NameUsedNeitherZeroNorOne], name_used;
     "stray byte in a free name slot", FreeName, [FreeNameSlotNotZero], free_name_slot;
 };

@@ -3,6 +3,7 @@
 //! * [`extensions`], [`names`], [`tables`], [`lists`]: calls of the library, compared by the program `compare`.
 //! * [`nights`]: whole nights of recorded calls, by the proved program and the second one, compared by it too.
 //! * [`make`]: the maker of nights, also for the program `make_night` and for timing.
+//! * [`spelling`]: names in letters of either case, which every part above mixes.
 //! * [`wire`], [`record`], [`area`]: the bytes of extensions, recorded calls and tables, without the help of either program.
 
 pub mod area;
@@ -20,6 +21,7 @@ pub mod pool;
 pub mod random;
 pub mod record;
 pub mod sound;
+pub mod spelling;
 pub mod spoil;
 pub mod tables;
 pub mod tally;

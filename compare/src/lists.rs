@@ -1,17 +1,21 @@
 //! Whole lists of calls from an empty table.
 
+mod spellings;
+
 use crate::area::{Area, KEY_SLOTS, LENGTH, NAME_SLOTS};
 use crate::both;
 use crate::call::{Answer, Call, Connection};
 use crate::choices::{Choices, Mix};
 use crate::random::Random;
 use crate::tally::Tally;
+use spellings::Spellings;
 use tack::extension::Extension;
 
 /// What the lists have met so far.
 #[derive(Default)]
 pub struct Lists {
     numbers: Tally,
+    spellings: Spellings,
     room: Room,
 }
 
@@ -87,12 +91,14 @@ impl Lists {
             }
             calls += 1;
         }
+        self.spellings.end_list();
         Ok(calls)
     }
 
     fn call(&mut self, table: &mut [u8], call: &Call) -> Result<Answer, String> {
         let answer = both::call(table, call)?;
         self.numbers.add(answer.number);
+        self.spellings.add(call, answer.number);
         Ok(answer)
     }
 
@@ -105,17 +111,21 @@ impl Lists {
         } else {
             for _ in 0..1 + random.below(2) {
                 let at = place(area, random);
-                bytes[at] = *random.pick(&[0, 1, 2, 255, bytes[at] ^ 1, bytes[at].wrapping_add(1)]);
+                let byte = bytes[at];
+                // The last is a letter's other case.
+                let others = [0, 1, 2, 255, byte ^ 1, byte.wrapping_add(1), byte ^ 0x20];
+                bytes[at] = *random.pick(&others);
             }
         }
         self.call(&mut bytes, call)?;
         Ok(())
     }
 
-    /// The verdict: every number and every kind of room came.
+    /// The verdict: every number, every spelling and every kind of room came.
     pub fn finish(&self) -> Result<(), String> {
         let numbers: Vec<u8> = (0..=7).chain(10..=23).collect();
         self.numbers.report("calls of lists", &numbers)?;
+        self.spellings.report()?;
         self.room.report()
     }
 }

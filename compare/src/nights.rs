@@ -9,6 +9,7 @@ mod whole;
 mod writers;
 
 use crate::random::Random;
+use crate::record;
 use counts::Counts;
 use kinds::{Feed, Kind, KINDS};
 use program::{Program, Replayed};
@@ -63,9 +64,14 @@ impl Nights {
             report: b"0 0 0 0\n1 1 0 0\ntotal 2\n".to_vec(),
             tally: b"0 1\n1 1\n".to_vec(),
         };
-        compare(&by_second(&night)?, &expected)
-            .and_then(|()| compare(&self.program.replay(&[&night], true)?, &expected))
+        self.is_reported(&night, &expected)
             .map_err(|problem| different("E4 and E5", &night, &problem))
+    }
+
+    /// Whether both programs give the report and the tally.
+    fn is_reported(&self, night: &[u8], expected: &Replayed) -> Result<(), String> {
+        compare(&by_second(night)?, expected)?;
+        compare(&self.program.replay(&[night], true)?, expected)
     }
 
     /// One night by both programs.
@@ -79,6 +85,7 @@ impl Nights {
     fn both(&mut self, kind: usize, feed: Feed, night: &[u8]) -> Result<(), String> {
         let mut second = by_second(night)?;
         self.counts.add(kind, &second)?;
+        self.in_small_letters(night, &second)?;
         let with_tally = !self.random.one_in(8);
         if !with_tally {
             self.counts.without_tally += 1;
@@ -86,6 +93,20 @@ impl Nights {
         }
         let pieces = self.pieces(feed, night);
         compare(&self.program.replay(&pieces, with_tally)?, &second)
+    }
+
+    /// A whole night with capitals must be reported as the same night in small letters is.
+    fn in_small_letters(&mut self, night: &[u8], expected: &Replayed) -> Result<(), String> {
+        if !expected.has_total() {
+            return Ok(());
+        }
+        let small = record::in_small_letters(night);
+        if small == night {
+            return Ok(());
+        }
+        self.counts.with_capitals += 1;
+        self.is_reported(&small, expected)
+            .map_err(|problem| format!("in small letters {problem}"))
     }
 
     /// The night as it is fed to the program.

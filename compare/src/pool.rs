@@ -5,23 +5,30 @@ use crate::area::Key;
 pub const NAME_FAMILIES: usize = 6;
 pub const KEY_FAMILIES: usize = 4;
 
-/// A well-formed name; other numbers below 1,000 give other names of the family.
+/// The bytes next to the letters, capital and small: no name has them, and folding leaves them as they are.
+pub const BESIDE_LETTERS: &[u8] = b"@[`{";
+
+/// A well-formed name in small letters; other numbers below 1,000 give other names of the family.
 pub fn name(family: usize, number: usize) -> Vec<u8> {
     let digits = format!("{number:03}");
-    let long: String = (0..250)
-        .map(|place| if place % 50 == 46 { '.' } else { 'a' })
-        .collect();
+    let letter = char::from(b'a' + (number % 26) as u8);
     let name = match family {
         // Some of these begin others.
         0 => format!("h{number}"),
-        1 => format!("no{digits}.clinic.example"),
+        // Every letter comes.
+        1 => format!("{letter}-{digits}.clinic.example"),
         2 => format!("{}.{digits}", "a".repeat(56)),
         // 253 bytes, that end or begin alike.
-        3 => format!("{digits}{long}"),
-        4 => format!("{long}{digits}"),
+        3 => format!("{digits}{}", long()),
+        4 => format!("{}{digits}", long()),
         _ => return self::name(number % 5, number),
     };
     name.into_bytes()
+}
+
+fn long() -> String {
+    let letter = |place| if place % 50 == 46 { '.' } else { 'a' };
+    (0..250).map(letter).collect()
 }
 
 /// A key; other numbers below 256 give other keys of the family. Number 0 is all zero in the first three, as a free slot is.

@@ -77,7 +77,37 @@ pub fn bytes<'a>(fields: impl IntoIterator<Item = &'a Field>) -> Vec<u8> {
     bytes
 }
 
+/// A night of whole calls with every name in small letters.
+pub fn in_small_letters(night: &[u8]) -> Vec<u8> {
+    let mut small = night.to_vec();
+    let mut rest = &mut small[..];
+    while let [tag, high, low, behind @ ..] = rest {
+        let length = usize::from(u16::from_be_bytes([*high, *low]));
+        let (contents, others) = behind.split_at_mut(length.min(behind.len()));
+        if *tag == NAME {
+            contents.make_ascii_lowercase();
+        }
+        rest = others;
+    }
+    small
+}
+
 /// The bytes of the call; none if it has no recorded form.
 pub fn call(call: &Connection) -> Option<Vec<u8>> {
     fields(call).map(|fields| bytes(&fields))
+}
+
+#[test]
+fn names_alone_are_put_in_small_letters() {
+    let night = |name: &[u8]| {
+        let silent = Connection::at(7, name);
+        let shown = silent.clone().with(b"AZ".to_vec());
+        [silent, shown]
+            .map(|made| call(&made).expect("it is recordable"))
+            .concat()
+    };
+    assert_eq!(
+        in_small_letters(&night(b"Desk.EXAMPLE")),
+        night(b"desk.example")
+    );
 }

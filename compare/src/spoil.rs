@@ -1,7 +1,9 @@
 //! How each kind of damage is done to a sound table. Each function breaks its rule at the given slot, and no other rule.
 
 use crate::area::{Area, Key, KEY_SLOTS, LIMIT, LONGEST};
+use crate::pool;
 use crate::random::Random;
+use crate::spelling;
 
 /// One byte of a part becomes another than 0; the first and the last more often than others.
 fn stray(part: &mut [u8], random: &mut Random) {
@@ -213,6 +215,18 @@ pub fn name_twice(area: &mut Area, slot: usize, random: &mut Random) {
     area.put_name(slot, &name);
 }
 
+/// One letter of the name is a capital, some are, or all.
+pub fn name_in_capitals(area: &mut Area, slot: usize, random: &mut Random) {
+    let name = spelling::with_capitals(area.name(slot).to_vec(), random);
+    area.put_name(slot, &name);
+}
+
+/// Another slot's name with capitals: byte by byte no name comes twice.
+pub fn name_in_two_spellings(area: &mut Area, slot: usize, random: &mut Random) {
+    name_twice(area, slot, random);
+    name_in_capitals(area, slot, random);
+}
+
 /// Another slot's name with its last byte changed, or with one byte more; no name of the pool ends in z.
 pub fn name_alike(area: &mut Area, slot: usize, random: &mut Random) {
     let other = another(area.used_names(), slot, random);
@@ -231,8 +245,8 @@ pub fn name_malformed(area: &mut Area, slot: usize, random: &mut Random) {
         0 => name[0] = b'-',
         1 => name[last] = b'-',
         2 => name[last] = b'.',
-        3 => name[any] = b'A' + random.below(26) as u8,
-        4 => name[any] = *random.pick(b"_/:@`{ ~\x80\xff"),
+        3 => name[any] = *random.pick(b"_/: ~\x80\xff"),
+        4 => name[any] = *random.pick(pool::BESIDE_LETTERS),
         5 => name[any] = 0,
         _ => name = vec![b'a'; 64],
     }

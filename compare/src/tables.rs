@@ -8,6 +8,7 @@ use crate::damage::{Kind, KINDS, PLACES};
 use crate::pool;
 use crate::random::Random;
 use crate::sound::{self, Fill};
+use crate::spelling;
 use crate::tally::Tally;
 
 /// What the tables have met so far.
@@ -129,16 +130,19 @@ impl Tables {
     }
 }
 
-/// A recorded name, if there is one, inspected and deleted.
+/// A recorded name, if there is one, inspected and deleted, each time in any spelling.
 fn recorded(area: &Area, random: &mut Random) -> Vec<Call> {
     let used = area.used_names();
     if used.is_empty() {
         return vec![];
     }
     let name = area.name(*random.pick(&used)).to_vec();
+    let mut spelled = || spelling::any(name.clone(), random);
+    let (before, name, after) = (spelled(), spelled(), spelled());
     let mix = mix(random);
-    let inspection = Choices::new(&mix, area, random).inspection_of(name.clone());
-    vec![inspection.clone(), Call::Delete { name }, inspection]
+    let mut choices = Choices::new(&mix, area, random);
+    let (before, after) = (choices.inspection_of(before), choices.inspection_of(after));
+    vec![before, Call::Delete { name }, after]
 }
 
 /// Inspection, judging, deletion and starting.

@@ -12,7 +12,7 @@ use crate::answer::{
 };
 use crate::extension::{Extension, Tack};
 use crate::minutes::Minutes;
-use crate::name::is_well_formed;
+use crate::name::FoldedName;
 use crate::pins::{NoRoom, PinTable};
 use crate::table::parse;
 
@@ -21,6 +21,7 @@ use crate::table::parse;
 #[derive(Debug, Clone, Copy, PartialEq, Eq)]
 pub struct Connection<'a> {
     pub clock: u64,
+    /// As the caller spells it; it is judged in small letters.
     pub name: &'a [u8],
     pub extension: Option<&'a [u8]>,
     pub spki_sha256: &'a [u8],
@@ -79,16 +80,15 @@ fn decide(table: &mut PinTable, connection: &Connection) -> Result<Judgement, u8
 /// A connection that no refusal applies to, with the table it is judged by.
 struct Case<'a> {
     table: &'a mut PinTable,
-    name: &'a [u8],
+    name: FoldedName,
     clock: Minutes,
     extension: Extension,
 }
 
 impl<'a> Case<'a> {
     /// The lowest number that applies is the refusal.
-    fn admit(table: &'a mut PinTable, connection: &Connection<'a>) -> Result<Case<'a>, u8> {
-        let name = connection.name;
-        refuse_if(!is_well_formed(name), NAME_MALFORMED)?;
+    fn admit(table: &'a mut PinTable, connection: &Connection) -> Result<Case<'a>, u8> {
+        let name = FoldedName::of(connection.name).ok_or(NAME_MALFORMED)?;
         let clock = Minutes::from_clock(connection.clock).ok_or(CLOCK_ABOVE_LIMIT)?;
         refuse_if(clock < table.latest(), CLOCK_BEFORE_LATEST)?;
         refuse_if(!connection.handshake_finished, HANDSHAKE_NOT_FINISHED)?;
@@ -145,10 +145,10 @@ impl<'a> Case<'a> {
         };
         let key = &tack.public_key;
         self.table.raise_floor(key, tack.min_generation);
-        match self.table.pin(self.name) {
+        match self.table.pin_of(&self.name) {
             Some((_, key_record)) if key_record.key == *key => {
                 if self.extension.activation {
-                    self.table.activate(self.name, self.clock);
+                    self.table.activate(&self.name, self.clock);
                 }
                 Ok(())
             }
@@ -156,14 +156,14 @@ impl<'a> Case<'a> {
             // Creation does not look at activation.
             _ => self
                 .table
-                .create(self.name, key, tack.min_generation, self.clock),
+                .create(&self.name, key, tack.min_generation, self.clock),
         }
     }
 
     /// By the record that stands after the steps.
     fn verdict(&self) -> u8 {
         let shown = self.extension.tack.as_ref().map(|tack| tack.public_key);
-        match self.table.pin(self.name) {
+        match self.table.pin_of(&self.name) {
             Some((name_record, key_record)) if name_record.is_active(self.clock) => {
                 if shown == Some(key_record.key) {
                     CONFIRMED

@@ -14,7 +14,8 @@
 //! * [`name`], [`minutes`], [`answer`]: names, clocks, numbers and alerts.
 //!
 //! Every function answers for every input. A refusal leaves the lent memory
-//! byte for byte as it was.
+//! byte for byte as it was. A caller's name may have capitals, which count as
+//! small letters everywhere; a table with a capital is damaged.
 
 #![forbid(unsafe_code)]
 

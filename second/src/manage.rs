@@ -7,7 +7,7 @@ use crate::answer::{
     INSPECTED_WITH_END, NAME_MALFORMED, NAME_NOT_RECORDED, STARTED,
 };
 use crate::minutes::Minutes;
-use crate::name::is_well_formed;
+use crate::name::FoldedName;
 use crate::pins::PinTable;
 use crate::table::{parse, AREA_LENGTH};
 
@@ -51,11 +51,11 @@ impl Inspection {
 
 /// Removes a name's record, and its key if no name is left on it.
 pub fn delete(area: &mut [u8], name: &[u8]) -> Outcome {
-    let mut table = match open(area, name) {
-        Ok(table) => table,
+    let (mut table, name) = match open(area, name) {
+        Ok(opened) => opened,
         Err(refusal) => return Outcome::new(refusal),
     };
-    if !table.remove_name(name) {
+    if !table.remove_name(&name) {
         return Outcome::new(NAME_NOT_RECORDED);
     }
     table.write(area);
@@ -76,20 +76,18 @@ pub fn start(area: &mut [u8]) -> Outcome {
     Outcome::new(STARTED)
 }
 
-/// The refusals that deletion and inspection share.
-fn open(area: &[u8], name: &[u8]) -> Result<PinTable, u8> {
+/// The table and the folded name, or the refusals that deletion and inspection
+/// share.
+fn open(area: &[u8], name: &[u8]) -> Result<(PinTable, FoldedName), u8> {
     let table = parse(area).map_err(|damage| damage.number())?;
-    if is_well_formed(name) {
-        Ok(table)
-    } else {
-        Err(NAME_MALFORMED)
-    }
+    let name = FoldedName::of(name).ok_or(NAME_MALFORMED)?;
+    Ok((table, name))
 }
 
 fn look(area: &[u8], name: &[u8], clock: u64) -> Result<Inspection, u8> {
-    let table = open(area, name)?;
+    let (table, name) = open(area, name)?;
     let clock = Minutes::from_clock(clock).ok_or(CLOCK_ABOVE_LIMIT)?;
-    let (name_record, key_record) = table.pin(name).ok_or(NAME_NOT_RECORDED)?;
+    let (name_record, key_record) = table.pin_of(&name).ok_or(NAME_NOT_RECORDED)?;
     let inspection = match name_record.end {
         Some(end) => Inspection {
             end: end.value(),

@@ -54,7 +54,8 @@ pub enum NotRecordable {
     ExtensionTooLong,
 }
 
-/// Appends a recorded call; a refusal appends nothing.
+/// Appends a recorded call, its name as the caller spelled it; a refusal
+/// appends nothing.
 pub fn write_call(call: &Connection, out: &mut Vec<u8>) -> Result<(), NotRecordable> {
     let clock = u32::try_from(call.clock).map_err(|_| NotRecordable::ClockAbove32Bits)?;
     let extension_length = call.extension.map_or(0, <[u8]>::len);

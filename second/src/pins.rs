@@ -7,6 +7,7 @@
 use std::collections::HashMap;
 
 use crate::minutes::Minutes;
+use crate::name::FoldedName;
 
 pub const KEY_SLOTS: usize = 64;
 pub const NAME_SLOTS: usize = 128;
@@ -86,9 +87,15 @@ impl PinTable {
         names.map(|(name, record)| (name.as_slice(), record))
     }
 
-    /// The pin of a name: its name record and the key record it stands on.
+    /// The pin of a name in any spelling: its name record and the key record
+    /// it stands on.
     pub fn pin(&self, name: &[u8]) -> Option<(&NameRecord, &KeyRecord)> {
-        let record = self.names.get(name)?;
+        self.pin_of(&FoldedName::of(name)?)
+    }
+
+    /// The same for a call that has folded its name already.
+    pub(crate) fn pin_of(&self, name: &FoldedName) -> Option<(&NameRecord, &KeyRecord)> {
+        let record = self.names.get(name.bytes())?;
         Some((record, self.key_record(record.key_slot)?))
     }
 
@@ -109,8 +116,8 @@ impl PinTable {
     }
 
     /// Activates the name's pin, or extends its active period.
-    pub(crate) fn activate(&mut self, name: &[u8], clock: Minutes) {
-        if let Some(record) = self.names.get_mut(name) {
+    pub(crate) fn activate(&mut self, name: &FoldedName, clock: Minutes) {
+        if let Some(record) = self.names.get_mut(name.bytes()) {
             record.end = Some(clock.active_period_end(record.initial));
         }
     }
@@ -121,12 +128,12 @@ impl PinTable {
     /// the old record and its key stay.
     pub(crate) fn create(
         &mut self,
-        name: &[u8],
+        name: &FoldedName,
         key: &PublicKey,
         min_generation: u8,
         clock: Minutes,
     ) -> Result<(), NoRoom> {
-        let replaced = self.names.get(name).copied();
+        let replaced = self.names.get(name.bytes()).copied();
         let slot = match replaced {
             Some(record) => record.slot,
             None => self.lowest_free_name_slot().ok_or(NoRoom)?,
@@ -147,13 +154,13 @@ impl PinTable {
             initial: clock,
             end: None,
         };
-        self.put_name(name, record);
+        self.put_name(name.bytes(), record);
         Ok(())
     }
 
     /// Removes a name's record; yes if there was one.
-    pub(crate) fn remove_name(&mut self, name: &[u8]) -> bool {
-        match self.names.remove(name) {
+    pub(crate) fn remove_name(&mut self, name: &FoldedName) -> bool {
+        match self.names.remove(name.bytes()) {
             Some(record) => {
                 self.release(record.key_slot);
                 true
@@ -181,6 +188,7 @@ impl PinTable {
     }
 
     /// Puts a name record on a used key slot; no if the name had one already.
+    /// The name is well-formed in a table.
     pub(crate) fn put_name(&mut self, name: &[u8], record: NameRecord) -> bool {
         if let Some(key_record) = &mut self.keys[record.key_slot.0] {
             key_record.names += 1;

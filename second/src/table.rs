@@ -6,7 +6,7 @@
 
 use crate::answer::{AREA_LENGTH_WRONG, TABLE_DAMAGED};
 use crate::minutes::Minutes;
-use crate::name::{is_well_formed, LONGEST_NAME};
+use crate::name::{is_well_formed_in_table, LONGEST_NAME};
 use crate::pins::{KeyRecord, KeySlot, NameRecord, NameSlot, PinTable, KEY_SLOTS, NAME_SLOTS};
 
 const HEADER_LENGTH: usize = 8;
@@ -120,10 +120,11 @@ fn parse_name_slot(table: &mut PinTable, index: NameSlot, slot: &[u8]) -> Result
     require(table.put_name(name, record), Damage::NameTwice)
 }
 
-/// The length byte can point past the padding, but no such name is well-formed.
+/// Nothing is folded here: a capital in a table is damage. The length byte can
+/// point past the padding, but no such name is well-formed.
 fn parse_name(slot: &[u8]) -> Result<&[u8], Damage> {
     let (name, rest) = slot[NAME_AT..].split_at(usize::from(slot[2]));
-    require(is_well_formed(name), Damage::NameMalformed)?;
+    require(is_well_formed_in_table(name), Damage::NameMalformed)?;
     let (padding, slot_end) = rest.split_at(LONGEST_NAME - name.len());
     require(is_zero(padding), Damage::NamePaddingNotZero)?;
     require(is_zero(slot_end), Damage::NameSlotEndNotZero)?;

@@ -141,7 +141,7 @@ fn refused(refusal: Refusal) -> Answer {
     )
 }
 
-/// A pin is made, activated, contradicted, and ends.
+/// A pin is made, activated, contradicted, and ends. Browsers spell its name with capitals.
 fn clinic(gateway: &mut Gateway) {
     let name = "desk.clinic.example";
     let ours = Shown::Tack {
@@ -160,9 +160,9 @@ fn clinic(gateway: &mut Gateway) {
     gateway.inspect(1600, name);
     gateway.connect(1599, name, &ours);
     gateway.connect(2000, name, &another);
-    gateway.connect(2199, name, &Shown::Nothing);
+    gateway.connect(2199, "Desk.Clinic.Example", &Shown::Nothing);
     gateway.connect(2200, name, &Shown::Nothing);
-    gateway.inspect(2300, name);
+    gateway.inspect(2300, "DESK.CLINIC.EXAMPLE");
     gateway.delete(2300, name);
 }
 

@@ -20,12 +20,12 @@ pub mod night;
 pub mod raw;
 pub mod table;
 
-/// Whether the bytes are a host name that the store takes: labels of 1 to 63 bytes of a-z, 0-9 and hyphen, no hyphen first or
-/// last, joined by dots, 253 bytes at most.
+/// Whether the bytes are a host name that the store takes: labels of 1 to 63 bytes of letters, 0-9 and hyphen, no hyphen first
+/// or last, joined by dots, 253 bytes at most. The letters are of either case: A-Z is taken as a-z.
 ///
 /// ```
 /// assert!(tack::is_host_name(b"desk.example"));
-/// assert!(!tack::is_host_name(b"Desk.example"));
+/// assert!(tack::is_host_name(b"Desk.Example"));
 /// assert!(!tack::is_host_name(b"desk.example."));
 /// ```
 pub fn is_host_name(name: &[u8]) -> bool {

@@ -73,7 +73,7 @@ impl fmt::Display for NotRecordable {
 
 impl std::error::Error for NotRecordable {}
 
-/// Appends one recorded call to the night, and nothing on an error.
+/// Appends one recorded call to the night, its name as it is spelled, and nothing on an error.
 pub fn record(connection: &Connection, night: &mut Vec<u8>) -> Result<(), NotRecordable> {
     let mut call = [0; LONGEST_CALL];
     // There is always space, so 25 is the only refusal.

@@ -81,7 +81,7 @@ pub struct Inspection {
 pub struct Connection<'a> {
     /// Minutes since 1970.
     pub clock: u64,
-    /// The server's host name.
+    /// The server's host name: `tack_judge` takes A-Z as a-z, `tack_call_write` writes the name as it is.
     pub name: &'a [u8],
     /// Whether an extension came.
     pub extension_came: bool,
@@ -212,7 +212,7 @@ pub fn signed_bytes(tack: &[u8], out: &mut [u8]) -> Writing {
     unsafe { library::tack_signed_bytes(tack.as_ptr(), tack.len(), out.as_mut_ptr(), out.len()) }
 }
 
-/// `tack_name_well_formed`.
+/// `tack_name_well_formed`, which takes A-Z as a-z.
 pub fn name_well_formed(name: &[u8]) -> bool {
     // SAFETY: the pointer and the length are those of one slice.
     unsafe { library::tack_name_well_formed(name.as_ptr(), name.len()) }
@@ -241,13 +241,13 @@ pub fn judge(table: &mut [u8], connection: &Connection) -> Judgement {
     }
 }
 
-/// `tack_delete`.
+/// `tack_delete`, which takes A-Z as a-z.
 pub fn delete(table: &mut [u8], name: &[u8]) -> Outcome {
     // SAFETY: each pointer goes with the length of its slice, and `table` does not overlap `name`.
     unsafe { library::tack_delete(table.as_mut_ptr(), table.len(), name.as_ptr(), name.len()) }
 }
 
-/// `tack_inspect`.
+/// `tack_inspect`, which takes A-Z as a-z.
 pub fn inspect(table: &[u8], name: &[u8], clock: u64) -> Inspection {
     // SAFETY: each pointer goes with the length of its slice.
     unsafe {

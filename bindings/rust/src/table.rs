@@ -66,6 +66,8 @@ pub const AREA_LENGTH: usize = 39_432;
 
 /// Pins of up to 128 names under up to 64 keys.
 ///
+/// A name is spelled in letters of either case: every call takes A-Z as a-z, and the table keeps small letters only.
+///
 /// A `PinTable` is always sound, so [`Refusal::AreaLength`] and [`Refusal::Damaged`] come from
 /// [`from_bytes`](PinTable::from_bytes) alone.
 ///
@@ -182,7 +184,7 @@ impl PinTable {
     /// use tack::table::{Deletion, PinTable, Refusal};
     ///
     /// let mut pins = PinTable::new();
-    /// assert_eq!(pins.delete(b"desk.example"), Ok(Deletion::NotRecorded));
+    /// assert_eq!(pins.delete(b"Desk.Example"), Ok(Deletion::NotRecorded));
     /// assert_eq!(pins.delete(b"desk.example."), Err(Refusal::NameMalformed));
     /// ```
     pub fn delete(&mut self, name: &[u8]) -> Result<Deletion, Refusal> {

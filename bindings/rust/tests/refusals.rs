@@ -1,35 +1,10 @@
 //! Every refusal of the judge through the safe crate: its number, its alert, and a table that stays as it was.
 
-use tack::extension;
+mod common;
+
+use common::{good, shown, HASH};
 use tack::raw;
 use tack::table::{Connection, PinTable, Refusal};
-
-const HASH: [u8; 32] = [0x77; 32];
-
-/// A tack of one key and a break signature of another, activation enabled.
-fn shown(min_generation: u8, generation: u8, expiration: u32) -> Vec<u8> {
-    let generations = [min_generation, generation];
-    let expiration = expiration.to_be_bytes();
-    let parts: [&[u8]; 5] = [&[0x11; 64], &generations, &expiration, &HASH, &[0x55; 64]];
-    let mut bytes = vec![0; 298];
-    let written = extension::write(&parts.concat(), &[0x22; 128], 1, &mut bytes);
-    assert_eq!(written, Ok(298));
-    bytes
-}
-
-/// A connection that passes at 1000 and makes a pin with floor 3.
-fn good(extension: &[u8]) -> Connection<'_> {
-    Connection {
-        clock: 1000,
-        name: b"a.b",
-        extension: Some(extension),
-        spki_sha256: &HASH,
-        handshake_finished: true,
-        key_is_point: true,
-        signature_correct: true,
-        breaks_correct: 1,
-    }
-}
 
 #[test]
 fn each_refusal_of_the_judge() {
@@ -42,7 +17,7 @@ fn each_refusal_of_the_judge() {
 
     #[rustfmt::skip]
     let refused = [
-        (12, Connection { name: b"A.b", ..good }),
+        (12, Connection { name: b"a_b", ..good }),
         (13, Connection { clock: 4_294_924_096, ..good }),
         (14, Connection { clock: 999, ..good }),
         (15, Connection { handshake_finished: false, ..good }),

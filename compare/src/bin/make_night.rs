@@ -1,7 +1,8 @@
 //! Makes a night of recorded calls on standard output.
 //!
 //! * `make_night stories`: the bundled night, `samples/night.bin`.
-//! * `make_night random CALLS SEED`: calls of few or many names and keys that meet, with edges and every refusal.
+//! * `make_night random CALLS SEED`: calls of few or many names, in any spelling, and keys that meet, with edges and every
+//!   refusal.
 //! * `make_night full CALLS SEED`: 256 calls that fill the table, and so many calls on it.
 //! * `make_night few CALLS SEED`: so many calls of four names, for timing.
 

@@ -43,7 +43,7 @@ pub fn told() -> Vec<Told> {
     story.calls
 }
 
-const SCENES: [fn(&mut Story); 24] = [
+const SCENES: [fn(&mut Story); 25] = [
     first_evening,
     clinic_is_confirmed,
     clock_goes_back,
@@ -55,6 +55,7 @@ const SCENES: [fn(&mut Story); 24] = [
     pharmacy_has_faults,
     expired_tack,
     malformed_names,
+    desk_in_any_spelling,
     clocks_above_the_limit,
     everything_wrong_and_mended,
     club_is_disabled_first,
@@ -136,6 +137,10 @@ const NEW_SCHOOL_KEY: u8 = 0x34;
 const CLUB: &str = "club.example";
 const CLUB_KEY: u8 = 0x55;
 const NEW_CLUB_KEY: u8 = 0x56;
+
+/// As browsers hand it to us.
+const DESK: &str = "Desk.Example";
+const DESK_KEY: u8 = 0x44;
 
 const CHESS: &str = "chess.club.example";
 const CHESS_KEY: u8 = 0x57;
@@ -306,7 +311,7 @@ fn expired_tack(story: &mut Story) {
     story.tell(at(5_101, PHARMACY).with(expiring(5_102)), CONFIRMED);
 }
 
-/// Labels of 1 to 63 bytes, names of 1 to 253, small letters, digits and hyphens within.
+/// Labels of 1 to 63 bytes, names of 1 to 253, letters, digits and hyphens within.
 fn malformed_names(story: &mut Story) {
     let label = |length: usize| "a".repeat(length);
     let long = |length: usize| {
@@ -316,15 +321,19 @@ fn malformed_names(story: &mut Story) {
     let malformed = [
         "",
         ".",
-        "Desk.Clinic.Example",
         "desk.clinic.example.",
+        "Desk.Clinic.Example.",
         ".clinic.example",
         "desk..example",
         "-desk.example",
         "desk-.example",
         "desk_1.example",
+        "@desk.example",
+        "desk[1].example",
         &format!("{}.example", label(64)),
+        &format!("{}.example", label(64)).to_uppercase(),
         &long(254),
+        &long(254).to_uppercase(),
         &long(300),
     ];
     for name in malformed {
@@ -332,7 +341,24 @@ fn malformed_names(story: &mut Story) {
     }
     for name in [&format!("{}.example", label(63)), &long(253), "1-2.3", "x"] {
         story.tell(at(5_200, name), UNPINNED);
+        story.tell(at(5_200, &name.to_uppercase()), UNPINNED);
     }
+}
+
+/// In letters of either case it is one name (document 02, Q-2): a pin that is made in one spelling is confirmed in another, to
+/// 5,230, and contradicted and broken in others.
+fn desk_in_any_spelling(story: &mut Story) {
+    let desk = || enabled(tack(DESK_KEY, 0, 0));
+    let impostor = enabled(tack(0x22, 0, 0));
+    story.tell(at(5_210, DESK).with(desk()), UNPINNED);
+    story.tell(at(5_220, "desk.example").with(desk()), CONFIRMED);
+    story.tell(at(5_229, "DESK.EXAMPLE"), CONTRADICTED);
+    story.tell(at(5_229, "dESK.example").with(impostor), CONTRADICTED);
+    story.tell(at(5_230, "desk.EXAMPLE"), UNPINNED);
+    story.tell(at(5_240, DESK).with(desk()), CONFIRMED);
+    let broken = breaking(&[DESK_KEY]);
+    story.tell(at(5_250, "DESK.EXAMPLE").with(broken), UNPINNED);
+    story.tell(at(5_250, DESK), UNPINNED);
 }
 
 /// A clock above the limit is refused, and does not move the table's.
@@ -353,7 +379,7 @@ fn everything_wrong_and_mended(story: &mut Story) {
     };
     let mut call = Connection {
         clock: u64::from(u32::MAX),
-        name: b"Pharmacy.Clinic.Example".to_vec(),
+        name: b"Pharmacy.Clinic.Example.".to_vec(),
         extension_came: true,
         extension: vec![],
         hash: vec![0x78; 32],
@@ -363,7 +389,7 @@ fn everything_wrong_and_mended(story: &mut Story) {
         breaks_correct: 0,
     };
     story.tell(call.clone(), NAME_MALFORMED);
-    call.name = PHARMACY.into();
+    call.name = b"Pharmacy.Clinic.Example".to_vec();
     story.tell(call.clone(), CLOCK_ABOVE_LIMIT);
     call.clock = 5_299;
     story.tell(call.clone(), CLOCK_BEFORE_LATEST);
@@ -460,6 +486,7 @@ fn calls_on_the_full_table(story: &mut Story) {
     let clock = 30_200;
     let other = |key| enabled(tack(key, 0, 0));
     story.tell(at(clock, CLINIC).with(clinic()), CONFIRMED);
+    story.tell(at(clock, "Desk.Clinic.Example").with(clinic()), CONFIRMED);
     story.tell(at(clock, CLINIC).with(other(0x22)), CONTRADICTED);
     story.tell(at(clock, CLINIC), CONTRADICTED);
     story.tell(at(clock, SHOP), UNPINNED);

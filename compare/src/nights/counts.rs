@@ -11,6 +11,8 @@ pub struct Counts {
     /// How often each number was answered in all nights, and how often there was no room.
     numbers: Tally,
     no_room: u64,
+    /// Nights that were replayed again in small letters.
+    pub with_capitals: u64,
     /// How the nights were given to the program.
     pub in_pieces: u64,
     pub without_tally: u64,
@@ -29,6 +31,7 @@ impl Default for Counts {
             kinds: vec![Ends::default(); KINDS.len()],
             numbers: Tally::default(),
             no_room: 0,
+            with_capitals: 0,
             in_pieces: 0,
             without_tally: 0,
         }
@@ -53,7 +56,8 @@ impl Counts {
         }
     }
 
-    /// The verdict: every kind of night, both ends of a report, every way to give a night, every number and no room came.
+    /// The verdict: every kind of night, both ends of a report, every way to give a night, capitals, every number and no room
+    /// came.
     pub fn finish(&self) -> Result<(), String> {
         self.kinds_came()?;
         let bad: u64 = self.kinds.iter().map(|ends| ends.bad).sum();
@@ -62,11 +66,23 @@ impl Counts {
         println!(
             "nights: {bad} bad and {total} with a total; {in_pieces} fed in pieces, {without_tally} without a tally"
         );
+        let with_capitals = self.with_capitals;
+        println!("nights with capitals, and again in small letters: {with_capitals}");
         let judging: Vec<u8> = (0..=2).chain(12..=23).collect();
         self.numbers.report("calls of nights", &judging)?;
         println!("calls of nights without room: {}", self.no_room);
-        match [bad, total, in_pieces, without_tally, self.no_room].contains(&0) {
-            true => Err("an end of a report, a way to give a night or no room never came".into()),
+        let all = [
+            bad,
+            total,
+            in_pieces,
+            without_tally,
+            with_capitals,
+            self.no_room,
+        ];
+        match all.contains(&0) {
+            true => Err(
+                "an end of a report, a way to give a night, capitals or no room never came".into(),
+            ),
             false => Ok(()),
         }
     }

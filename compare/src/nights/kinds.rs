@@ -63,6 +63,7 @@ pub const KINDS: &[Kind] = kinds! {
     "no call at all", 3, Either, Total, whole::empty;
     "the bundled night", 2, Either, Total, whole::bundled;
     "random calls", 40, Either, Total, whole::random;
+    "every name with capitals", 12, Either, Total, whole::every_name_with_capitals;
     "a full table", 6, Either, Total, whole::full;
     "above 200,000 bytes", 6, AtOnce, Total, whole::long;
     "above 200,000 bytes, in pieces", 6, InPieces, Total, whole::long;

@@ -4,6 +4,7 @@ use crate::call::Connection;
 use crate::make::{self, stories};
 use crate::random::Random;
 use crate::record::{LONGEST_CALL, LONGEST_EXTENSION, LONGEST_NAME};
+use crate::spelling;
 
 /// Makers give recordable calls only.
 fn bytes(night: impl IntoIterator<Item = Connection>) -> Vec<u8> {
@@ -35,6 +36,19 @@ pub fn random(case: usize, random: &mut Random) -> Vec<u8> {
 
 pub fn full(_case: usize, random: &mut Random) -> Vec<u8> {
     bytes(make::full(300, random.seed()))
+}
+
+/// The bundled night, one on a full table, and random ones; only a name without letters has no capital.
+pub fn every_name_with_capitals(case: usize, random: &mut Random) -> Vec<u8> {
+    let mut night: Vec<Connection> = match case % 6 {
+        0 => stories::night().collect(),
+        1 => make::full(300, random.seed()).collect(),
+        _ => make::random(400, random.seed()).collect(),
+    };
+    for call in &mut night {
+        call.name = spelling::with_capitals(spelling::small(&call.name), random);
+    }
+    bytes(night)
 }
 
 /// Calls of few names, of all sorts, and on a full table.
@@ -108,4 +122,19 @@ fn of_length(length: usize, random: &mut Random) -> Vec<u8> {
     let night = bytes(calls);
     assert_eq!(night.len(), length);
     night
+}
+
+#[test]
+fn no_name_is_left_in_small_letters() {
+    let mut random = Random::new(1);
+    for case in 0..6 {
+        let night = every_name_with_capitals(case, &mut random);
+        let mut rest = &night[..];
+        while let Some((call, behind)) = second::read_call(rest) {
+            let has_letter = call.name.iter().any(u8::is_ascii_alphabetic);
+            assert_eq!(spelling::has_capital(call.name), has_letter);
+            rest = behind;
+        }
+        assert!(rest.is_empty() && night != crate::record::in_small_letters(&night));
+    }
 }

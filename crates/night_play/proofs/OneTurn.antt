@@ -10,7 +10,7 @@ use lib.ListN.{length, getD, take, drop, length-drop}
 use Rattle.octets.specs.Octets.{part, put, number}
 use Rattle.octets.proofs.Parts.{part-at}
 use Rattle.pin_model.specs.Judge.{Connection, connection}
-use Rattle.pin_model.specs.Calls.{Answer, judge, answer, areaAfter}
+use Rattle.pin_model.specs.Calls.{Answer, judge, folded, answer, areaAfter}
 use Rattle.recorded_call.specs.RecordedCall.{Front, taken, cutOff, bad}
 use Rattle.recorded_call.specs.Places.{callAt, extensionAt, takenAt, Ordered, Within}
 use Rattle.recorded_call.specs.declared.reader.Taken.{Taken}
@@ -68,15 +68,15 @@ pub record Played (r : Turn) (index : ℕ) (area areaNow night out outNow : List
 module _ (index : ℕ) (area night out : List ℕ) (at : ℕ) (x : Front Connection) where
   pub played-line : (after : ℕ) (c : Connection) (a : Answer) {areaNow outNow : List ℕ} {end number : ℕ} {noRoom : Bool}
       → taken c (drop after night) ≡ x → after ≤ length night
-      → a ≡ answer (judge c) area → areaNow ≡ areaAfter (judge c) area
+      → a ≡ answer (folded (judge c)) area → areaNow ≡ areaAfter (folded (judge c)) area
       → number ≡ a .number → noRoom ≡ a .noRoom
       → (end ≡ at + length (lineOf index number noRoom)) × (outNow ≡ put out at (lineOf index number noRoom))
       → Played (turn.Line after end number) index area areaNow night out outNow at x
   played-line after c a {areaNow} {outNow} {end} {number} {noRoom} read within answered judged numbered room wrote =
       let size : after ≡ length night - length (drop after night) = omega (arith, length-drop after night) in
-      let same : lineOf index number noRoom ≡ line index (answer (judge c) area) = rw (numbered, room, answered) refl in
-      let its : number ≡ answer (judge c) area .number = numbered ∙ ap (λ (b : Answer). b .number) answered in
-      let place : end ≡ at + length (line index (answer (judge c) area)) = wrote .0 ∙ ap (λ (l : List ℕ). at + length l) same in
+      let same : lineOf index number noRoom ≡ line index (answer (folded (judge c)) area) = rw (numbered, room, answered) refl in
+      let its : number ≡ answer (folded (judge c)) area .number = numbered ∙ ap (λ (b : Answer). b .number) answered in
+      let place : end ≡ at + length (line index (answer (folded (judge c)) area)) = wrote .0 ∙ ap (λ (l : List ℕ). at + length l) same in
       subst (λ (y : Front Connection). Played (turn.Line after end number) index area areaNow night out outNow at y) read
       (record { turned = line-same size place its; judged = judged; written = wrote .1 ∙ ap (λ (l : List ℕ). put out at l) same })
     where

@@ -14,7 +14,7 @@ use Rattle.pin_model.specs.Slots.{used}
 use Rattle.pin_model.specs.Table.{KeyRecord, NameRecord, Table, nameIs, nameRecorded}
 use Rattle.pin_model.specs.Layout.{decode}
 use Rattle.pin_model.specs.Judge.{Connection, tackShown, shows, activePin, verdict, judged}
-use Rattle.pin_model.specs.Calls.{Call, judge, delete, inspect, start, Answer, testsOf, refusal, granted, floorOf, inspectedWith, inspectedIn, answerBy, answer}
+use Rattle.pin_model.specs.Calls.{Call, judge, delete, inspect, start, folded, Answer, testsOf, refusal, granted, floorOf, inspectedWith, inspectedIn, answerBy, answer}
 use Rattle.pin_model.proofs.First.{first-number}
 use Rattle.pin_journal.specs.Demand3.{areaOf, numberOf}
 use Rattle.night_report.specs.Report.{numbers}
@@ -71,7 +71,7 @@ answer-counts call b = go (refusal call b) (refusal-counts call b) (granted-coun
 all-count : (calls : List Call) → all (λ n. ltb n 32) (numbers calls) ≡ true
 unfolding numbers numberOf
 all-count [] = refl
-all-count (call ∷ calls) = and-both _ _ (answer-counts call (areaOf calls)) (all-count calls)
+all-count (call ∷ calls) = and-both _ _ (answer-counts (folded call) (areaOf calls)) (all-count calls)
 
 numbers-length : (calls : List Call) → length (numbers calls) ≡ length calls
 unfolding numbers

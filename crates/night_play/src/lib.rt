@@ -5,7 +5,7 @@ use recorded_call::reader;
 use recorded_call::reader::Taken;
 use tally::Tally;
 ghost use mathlib.Core.Path.{_≡_};
-ghost use mathlib.Core.Bool.{Bool, true};
+ghost use mathlib.Core.Bool.{true};
 ghost use Prim.Native.Nat.{_+_, _≤_, _<_, _/_, _%_};
 ghost use lib.Dec.{eqb};
 ghost use lib.ListN.{length};
@@ -68,8 +68,8 @@ fn judge_call(
     after: usize,
 ) -> Judgement
     requires { ⌜ Ordered (now night) «name_end» «extension_came» after × (sound (now area) ≡ true) ⌝ }
-    ensures answer { λ r. ⌜ judgementAnswer r ≡ calls.answer (calls.judge (callAt (now (night .entry)) «name_end» «extension_came» after)) (now (area .entry)) ⌝ }
-    ensures area { λ _. ⌜ now (area .exit) ≡ calls.areaAfter (calls.judge (callAt (now (night .entry)) «name_end» «extension_came» after)) (now (area .entry)) ⌝ }
+    ensures answer { λ r. ⌜ judgementAnswer r ≡ calls.answer (calls.folded (calls.judge (callAt (now (night .entry)) «name_end» «extension_came» after))) (now (area .entry)) ⌝ }
+    ensures area { λ _. ⌜ now (area .exit) ≡ calls.areaAfter (calls.folded (calls.judge (callAt (now (night .entry)) «name_end» «extension_came» after))) (now (area .entry)) ⌝ }
     ensures sound { λ _. ⌜ sound (now (area .exit)) ≡ true ⌝ }
 {
     let hash_at = name_end + 8;

@@ -2,4 +2,5 @@ pub mod Decimal
 pub mod Pieces
 pub mod Lines
 pub mod Nights
+pub mod Respelled
 pub mod Example

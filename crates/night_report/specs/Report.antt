@@ -6,7 +6,7 @@ use lib.ListN.{length}
 use lib.Dec.{ltb}
 use Rattle.tack_extension.specs.Answers.{alertOf}
 use Rattle.pin_model.specs.Judge.{Connection}
-use Rattle.pin_model.specs.Calls.{Call, judge, Answer, answer}
+use Rattle.pin_model.specs.Calls.{Call, judge, folded, Answer, answer}
 use Rattle.pin_journal.specs.Demand3.{areaOf, numberOf}
 use Rattle.recorded_call.specs.RecordedCall.{Front, taken, cutOff, bad, recorded}
 
@@ -74,7 +74,7 @@ nightOf s = nightWithin (length s) s
 -- run of demand 3
 unfoldable pub lines : List Call → List Connection → List ℕ
 lines earlier [] = []
-lines earlier (c ∷ cs) = line (length earlier) (answer (judge c) (areaOf earlier)) ++ lines (judge c ∷ earlier) cs
+lines earlier (c ∷ cs) = line (length earlier) (answer (folded (judge c)) (areaOf earlier)) ++ lines (judge c ∷ earlier) cs
 
 -- 'ends the report without a total'
 abbrev pub closing : ℕ → Bool → List ℕ

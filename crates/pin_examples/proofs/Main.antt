@@ -1,23 +1,23 @@
--- E1 to E12 hold: computed on the model's tables, and carried over to bytes by the run. Assumes nothing.
+-- E1 to E12 and the spellings of Q-2 hold: computed on the model's tables, and carried over to bytes by the run. Assumes nothing.
 use mathlib.Core.Path.{_≡_, refl, _∙_}
 use mathlib.Core.List.{List}
 use Rattle.octets.specs.Octets.{part, same, bigEndian, number, numberAfter}
 use Rattle.host_name.specs.Name.{isLabel, betweenDots, wellFormed}
+use Rattle.host_name.specs.Folding.{foldedName}
 use Rattle.tack_extension.specs.Extension.{bytesOf, tackStep, breaksStep, activationStep, parse}
 use Rattle.tack_extension.specs.Tack.{publicKey, targetHash, breakKey, eachBreak, breakSignatures}
-use Rattle.pin_model.specs.Table.{Table}
 use Rattle.pin_model.specs.Layout.{joined, encodeKey, encodeName, encode}
 use Rattle.pin_model.specs.Judge.{partsOf, tackShown, enabled, breaksShown, brokenKeys, judged, noRoom, verdict}
-use Rattle.pin_model.specs.Calls.{Call, Answer}
+use Rattle.pin_model.specs.Calls.{Call, folded, Answer}
 use Rattle.pin_journal.specs.Demand3.{areaOf}
 use Rattle.pin_journal.proofs.TableRun.{tableRefusal, tableAnswer, tableNext, tableRun}
 use Rattle.pin_journal.proofs.Main.{area-run, answer-run}
-use Rattle.pin_examples.specs.Examples.{ReadingRight, Row, Right, after, Every, nothing, _also_, e4, e4Area, e5, e5Inspected, e6, e7, e8, e8Inspected, e9, e10, e11, e12At1000, e12At1001, readingExamples, Examples}
+use Rattle.pin_examples.specs.Examples.{ReadingRight, Row, Right, after, Every, nothing, _also_, e4, e4Area, e5, e5Inspected, e6, e7, e8, e8Inspected, e9, e10, e11, e12At1000, e12At1001, spelledMade, spelledConfirmed, spelledContradicted, spelledInspected, spelledAZ, spelledBeforeA, spelledBehindZ, readingExamples, spelledExamples, Examples}
 
 -- what a call is answered on the model's tables, after a history: where it unfolds, all that it is made of computes
 unfoldable modelAnswer : List Call → Call → Answer
-unfolding tableRun tableNext tableRefusal tableAnswer judged noRoom verdict partsOf tackShown enabled breaksShown brokenKeys publicKey targetHash breakKey eachBreak breakSignatures bytesOf tackStep breaksStep activationStep parse isLabel betweenDots wellFormed part same bigEndian number numberAfter
-modelAnswer history call = tableAnswer call (tableRun history)
+unfolding tableRun tableNext tableRefusal tableAnswer judged noRoom verdict partsOf tackShown enabled breaksShown brokenKeys publicKey targetHash breakKey eachBreak breakSignatures bytesOf tackStep breaksStep activationStep parse isLabel betweenDots wellFormed foldedName part same bigEndian number numberAfter
+modelAnswer history call = tableAnswer (folded call) (tableRun history)
 
 right : (r : Row) → modelAnswer (r .history) (r .call) ≡ r .gives → Right r
 unfolding modelAnswer
@@ -79,6 +79,12 @@ e12At1001-right : Right e12At1001
 unfolding modelAnswer
 e12At1001-right = right e12At1001 refl
 
+spellings-right : Every Right spelledExamples
+unfolding modelAnswer
+spellings-right =
+    right spelledMade refl also right spelledConfirmed refl also right spelledContradicted refl also right spelledInspected refl
+    also right spelledAZ refl also right spelledBeforeA refl also right spelledBehindZ refl also nothing
+
 pub examples-hold : Examples
 examples-hold = record {
   readings = e1-e2-e3-right;
@@ -86,4 +92,5 @@ examples-hold = record {
       e4-right also e5-right also e5Inspected-right also e6-right also e7-right also e8-right also e8Inspected-right
       also e9-right also e10-right also e11-right also e12At1000-right also e12At1001-right also nothing;
   e4Bytes = e4-bytes;
+  spellings = spellings-right;
 }

@@ -1,4 +1,5 @@
--- E1 to E12 of document 01, 'Examples on both sides': one table under one statement, `Examples`. Assumes nothing.
+-- E1 to E12 of document 01, 'Examples on both sides', and spellings of a name for document 02, Q-2: one table under one
+-- statement, `Examples`. Assumes nothing.
 use mathlib.Core.Path.{_≡_}
 use mathlib.Core.Bool.{true, false}
 use mathlib.Core.List.{List, [], _∷_, _++_}
@@ -9,7 +10,7 @@ use Rattle.octets.specs.Octets.{bigEndian}
 use Rattle.tack_extension.specs.Extension.{parts, bytesOf, parse}
 use Rattle.tack_extension.specs.Answers.{readingOf, readingNumber}
 use Rattle.pin_model.specs.Judge.{connection}
-use Rattle.pin_model.specs.Calls.{Call, judge, inspect, Answer, plain, answer}
+use Rattle.pin_model.specs.Calls.{Call, judge, inspect, folded, Answer, plain, answer}
 use Rattle.pin_journal.specs.Demand3.{areaOf}
 
 -- bytes, and the number that the reader answers with
@@ -27,7 +28,7 @@ pub record Row : Type 0 where
   pub gives : Answer
 
 abbrev pub Right : Row → Type 0
-Right r = answer (r .call) (areaOf (r .history)) ≡ r .gives
+Right r = answer (folded (r .call)) (areaOf (r .history)) ≡ r .gives
 
 abbrev pub row : List Call → Call → Answer → Row
 row history call gives = record { history = history; call = call; gives = gives }
@@ -59,13 +60,20 @@ tack minGeneration generation expiration =
 abbrev pub later : ℕ
 later = 4294967295
 
--- a connection by its clock, with a tack and activation 1, or with 'no extension'; 'break signatures are absent, other
+-- a connection by its name and clock, with a tack and activation 1, or with 'no extension'; 'break signatures are absent, other
 -- checks pass'
+abbrev pub tackAs : List ℕ → ℕ → List ℕ → Call
+tackAs name clock t = judge (connection clock name true (bytesOf (parts t [] 1)) hash true true true 0)
+
+abbrev pub noExtensionAs : List ℕ → ℕ → Call
+noExtensionAs name clock = judge (connection clock name false [] hash true true true 0)
+
+-- the same for `a.b`
 abbrev pub withTack : ℕ → List ℕ → Call
-withTack clock t = judge (connection clock host true (bytesOf (parts t [] 1)) hash true true true 0)
+withTack clock t = tackAs host clock t
 
 abbrev pub withoutExtension : ℕ → Call
-withoutExtension clock = judge (connection clock host false [] hash true true true 0)
+withoutExtension clock = noExtensionAs host clock
 
 -- E1: 'bytes 00 00 00 00 are well-formed'
 abbrev pub e1 : ReadingRow
@@ -140,14 +148,60 @@ e12At1000 = row [] (withTack 1000 (tack 3 3 1000)) (plain 0)
 abbrev pub e12At1001 : Row
 e12At1001 = row [] (withTack 1001 (tack 3 3 1000)) (plain 23)
 
+-- 'Browsers hand us `Desk.Example`. Accept A-Z and treat it as a-z everywhere' (document 02, Q-2)
+abbrev pub typed : List ℕ
+typed = 0x44 ∷ 0x65 ∷ 0x73 ∷ 0x6B ∷ 0x2E ∷ 0x45 ∷ 0x78 ∷ 0x61 ∷ 0x6D ∷ 0x70 ∷ 0x6C ∷ 0x65 ∷ []
+
+-- the same name as `desk.example`, `DESK.EXAMPLE` and `dESK.example`
+abbrev pub small : List ℕ
+small = 0x64 ∷ 0x65 ∷ 0x73 ∷ 0x6B ∷ 0x2E ∷ 0x65 ∷ 0x78 ∷ 0x61 ∷ 0x6D ∷ 0x70 ∷ 0x6C ∷ 0x65 ∷ []
+
+abbrev pub capitals : List ℕ
+capitals = 0x44 ∷ 0x45 ∷ 0x53 ∷ 0x4B ∷ 0x2E ∷ 0x45 ∷ 0x58 ∷ 0x41 ∷ 0x4D ∷ 0x50 ∷ 0x4C ∷ 0x45 ∷ []
+
+abbrev pub mixed : List ℕ
+mixed = 0x64 ∷ 0x45 ∷ 0x53 ∷ 0x4B ∷ 0x2E ∷ 0x65 ∷ 0x78 ∷ 0x61 ∷ 0x6D ∷ 0x70 ∷ 0x6C ∷ 0x65 ∷ []
+
+-- E4, E5 and E6 again, each in another spelling of the name
+abbrev pub spelledMade : Row
+spelledMade = row [] (tackAs typed 1000 (tack 3 3 later)) (plain 0)
+
+abbrev pub spelledConfirmed : Row
+spelledConfirmed = row (after spelledMade) (tackAs small 1600 (tack 3 3 later)) (plain 1)
+
+abbrev pub spelledContradicted : Row
+spelledContradicted = row (after spelledConfirmed) (noExtensionAs capitals 2199) (plain 2)
+
+-- the end of that pin, a minute before it
+abbrev pub spelledInspected : Row
+spelledInspected =
+    row (after spelledConfirmed) (inspect mixed 2199)
+    (record { number = 6; noRoom = false; floor = 3; initial = 1000; end = 2200; minutesLeft = pos 1 })
+
+-- 'A-Z' and no byte beside them, 'Refusal 12 narrows': `A.Z` passes, `@.Z` and `A.[` give 12
+abbrev pub spelledAZ : Row
+spelledAZ = row [] (tackAs (0x41 ∷ 0x2E ∷ 0x5A ∷ []) 1000 (tack 3 3 later)) (plain 0)
+
+abbrev pub spelledBeforeA : Row
+spelledBeforeA = row [] (tackAs (0x40 ∷ 0x2E ∷ 0x5A ∷ []) 1000 (tack 3 3 later)) (plain 12)
+
+abbrev pub spelledBehindZ : Row
+spelledBehindZ = row [] (tackAs (0x41 ∷ 0x2E ∷ 0x5B ∷ []) 1000 (tack 3 3 later)) (plain 12)
+
 abbrev pub readingExamples : List ReadingRow
 readingExamples = e1 ∷ e2 ∷ e3 ∷ []
 
 abbrev pub examples : List Row
 examples = e4 ∷ e5 ∷ e5Inspected ∷ e6 ∷ e7 ∷ e8 ∷ e8Inspected ∷ e9 ∷ e10 ∷ e11 ∷ e12At1000 ∷ e12At1001 ∷ []
 
+abbrev pub spelledExamples : List Row
+spelledExamples =
+    spelledMade ∷ spelledConfirmed ∷ spelledContradicted ∷ spelledInspected
+    ∷ spelledAZ ∷ spelledBeforeA ∷ spelledBehindZ ∷ []
+
 -- 'E1-E12 are proved together as one table under one statement'
 pub record Examples : Type 0 where
   pub readings : Every ReadingRight readingExamples
   pub rows : Every Right examples
   pub e4Bytes : areaOf (after e4) ≡ e4Area
+  pub spellings : Every Right spelledExamples

@@ -11,7 +11,7 @@ use Rattle.octets.proofs.Tests.{and-left}
 use Rattle.pin_model.specs.Slots.{used}
 use Rattle.pin_model.specs.Table.{Table, nameIs, active}
 use Rattle.pin_model.specs.Judge.{Connection, tackShown, shows, activePin, judged, verdict}
-use Rattle.pin_model.specs.Calls.{Call, judge, granted, answerBy}
+use Rattle.pin_model.specs.Calls.{Call, judge, foldedConnection, granted, answerBy}
 use Rattle.pin_model.proofs.Lists.{count, any-ext, count-some, count-implied, count-split, any-split}
 use Rattle.pin_model.proofs.SoundFacts.{SoundFacts, sound-facts}
 use Rattle.pin_model.proofs.TableCalls.{tableRefusal, tableAnswer, tableBy, tableNext}
@@ -77,12 +77,13 @@ module _ (c : Connection) {t : Table} {rows : List Row} {floor : List ℕ → �
 pub contradiction : (calls : List Call) → Contradiction calls
 unfolding tableAnswer tableRun tableNext rowsOf
 contradiction calls later earlier c split got =
-    let passed : tableRefusal (judge c) (tableRun earlier) ≡ none =
-    verdict-granted c (tableRun earlier) (sym (ap isVerdict (number-run (judge c) earlier)) ∙ got) in
-    let number : numberOf (judge c) earlier ≡ verdict c (tableRun (judge c ∷ earlier)) =
+    let f : Connection = foldedConnection c in
+    let passed : tableRefusal (judge f) (tableRun earlier) ≡ none =
+    verdict-granted f (tableRun earlier) (sym (ap isVerdict (number-run (judge c) earlier)) ∙ got) in
+    let number : numberOf (judge c) earlier ≡ verdict f (tableRun (judge c ∷ earlier)) =
     number-run (judge c) earlier
-    ∙ ap (λ (o : Option ℕ). answerBy o (granted (judge c) (tableRun earlier)) .number) passed
-    ∙ ap (λ (o : Option ℕ). verdict c (tableBy o (tableRun earlier) (judged c (tableRun earlier)))) (sym passed) in
+    ∙ ap (λ (o : Option ℕ). answerBy o (granted (judge f) (tableRun earlier)) .number) passed
+    ∙ ap (λ (o : Option ℕ). verdict f (tableBy o (tableRun earlier) (judged f (tableRun earlier)))) (sym passed) in
     let two =
-    contradicted-verdict c (run-invariant (judge c ∷ earlier)) (sound-facts (tableRun (judge c ∷ earlier)) (run-sound (judge c ∷ earlier))) in
+    contradicted-verdict f (run-invariant (judge c ∷ earlier)) (sound-facts (tableRun (judge c ∷ earlier)) (run-sound (judge c ∷ earlier))) in
     (λ e. two .0 (sym number ∙ e), λ e. number ∙ two .1 e)

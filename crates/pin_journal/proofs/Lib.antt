@@ -12,4 +12,5 @@ pub mod RunInvariant
 pub mod Floors
 pub mod Revocation
 pub mod Contradiction
+pub mod Spellings
 pub mod Main

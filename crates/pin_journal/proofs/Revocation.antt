@@ -1,5 +1,5 @@
 -- Demand 3 (a), revocation. Assumes nothing.
-use mathlib.Core.Path.{_≡_, sym, _∙_, ap, ap₂}
+use mathlib.Core.Path.{_≡_, refl, sym, _∙_, ap, ap₂}
 use mathlib.Core.Bool.{Bool, true, cond, _&&_, true≢false, or-false}
 use mathlib.Core.List.{List, [], _∷_, _++_}
 use mathlib.Core.Option.{Option, none, some}
@@ -10,8 +10,8 @@ use borrow.Author.Tests.{ltb-true, lt-ltb}
 use Rattle.octets.proofs.Tests.{and-left, and-right, is-false}
 use Rattle.tack_extension.specs.Tack.{publicKey, generation}
 use Rattle.pin_model.specs.Table.{Table}
-use Rattle.pin_model.specs.Judge.{Connection, tackShown, ofTack, revoked, connectionTests, judged}
-use Rattle.pin_model.specs.Calls.{Call, judge, granted, answerBy}
+use Rattle.pin_model.specs.Judge.{Connection, partsOf, tackShown, ofTack, revoked, connectionTests, judged}
+use Rattle.pin_model.specs.Calls.{Call, judge, foldedConnection, folded, granted, answerBy}
 use Rattle.pin_model.proofs.First.{first-some}
 use Rattle.pin_model.proofs.Refusals.{refusal-facts}
 use Rattle.pin_model.proofs.TableCalls.{tableRefusal, tableAnswer}
@@ -39,7 +39,7 @@ floor-rises : (k : List ℕ) (calls earlier : List Call) → StoodThrough k call
 unfolding entriesOf rowsOf
 floor-rises k [] earlier h = omega arith
 floor-rises k (call ∷ calls) earlier h =
-    let e = entry call (numberOf call (calls ++ earlier)) in
+    let e = entry (folded call) (numberOf call (calls ++ earlier)) in
     let up : highestOf k earlier ≤ highestOf k (calls ++ earlier) = floor-rises k calls earlier (h .1) in
     let now : highestOf k ((call ∷ calls) ++ earlier) ≡ max (shownBy k e) (highestOf k (calls ++ earlier)) =
     highest-since k e (entriesOf (calls ++ earlier)) (h .0)
@@ -65,13 +65,19 @@ revoked-by-rows : (calls : List Call) (tack : List ℕ)
 unfolding rowsOf
 revoked-by-rows calls tack = run-invariant calls .sameFloors (publicKey tack) (ltb (generation tack))
 
+-- the tack is shown whatever the name
+shown-folded : (c : Connection) → tackShown (foldedConnection c) ≡ tackShown c
+unfolding tackShown partsOf
+shown-folded c = refl
+
 pub revocation : (calls : List Call) → Revocation calls
 unfolding tableRefusal
 revocation calls later between earlier refused second tack shown split e is-22 stood d same-key low =
     is-false (isVerdict (numberOf (judge second) mid)) (λ verdict.
-    let passed : tableRefusal (judge second) (tableRun mid) ≡ none =
-    verdict-granted second (tableRun mid) (sym (ap isVerdict (number-run (judge second) mid)) ∙ verdict) in
-    true≢false (sym revoked-again ∙ refusal-facts second (tableRun mid) passed .tackFacts shown d .notRevoked))
+    let passed : tableRefusal (judge (foldedConnection second)) (tableRun mid) ≡ none =
+    verdict-granted (foldedConnection second) (tableRun mid) (sym (ap isVerdict (number-run (judge second) mid)) ∙ verdict) in
+    true≢false (sym revoked-again
+    ∙ refusal-facts (foldedConnection second) (tableRun mid) passed .tackFacts shown (shown-folded second ∙ d) .notRevoked))
   where
     key : List ℕ
     key = publicKey tack
@@ -81,8 +87,9 @@ revocation calls later between earlier refused second tack shown split e is-22 s
 
     at-refusal : (stands key (rowsOf earlier) && ltb (generation tack) (highestOf key earlier)) ≡ true
     at-refusal =
-        sym (revoked-by-rows earlier tack) ∙ sym (ap (λ (o : Option (List ℕ)). ofTack o (revoked (tableRun earlier))) e)
-        ∙ refused-revoked refused (tableRun earlier) (number-22 refused (tableRun earlier) (sym (number-run (judge refused) earlier) ∙ is-22))
+        sym (revoked-by-rows earlier tack) ∙ sym (ap (λ (o : Option (List ℕ)). ofTack o (revoked (tableRun earlier))) (shown-folded refused ∙ e))
+        ∙ refused-revoked (foldedConnection refused) (tableRun earlier)
+        (number-22 (foldedConnection refused) (tableRun earlier) (sym (number-run (judge refused) earlier) ∙ is-22))
 
     below : generation tack < highestOf key earlier
     below =

@@ -4,7 +4,7 @@ use mathlib.Core.Bool.{true, false}
 use mathlib.Core.List.{List, [], _∷_}
 use Rattle.pin_model.specs.Layout.{encode, decode}
 use Rattle.pin_model.specs.Sound.{sound}
-use Rattle.pin_model.specs.Calls.{Call, Answer, answer, areaAfter}
+use Rattle.pin_model.specs.Calls.{Call, folded, Answer, answer, areaAfter}
 use Rattle.pin_model.proofs.Encoded.{decode-encode}
 use Rattle.pin_model.proofs.SoundTable.{sound-table-fits, encode-empty}
 use Rattle.pin_model.proofs.SoundEncode.{zeros-sound}
@@ -19,13 +19,13 @@ pub area-run : (calls : List Call) → areaOf calls ≡ encode (tableRun calls)
 unfolding areaOf tableRun
 area-run [] = sym encode-empty
 area-run (call ∷ calls) =
-    ap (areaAfter call) (area-run calls) ∙ area-encoded (tableRun calls) (run-sound calls) (run-whole calls) call
+    ap (areaAfter (folded call)) (area-run calls) ∙ area-encoded (tableRun calls) (run-sound calls) (run-whole calls) (folded call)
 
-pub answer-run : (call : Call) (earlier : List Call) → answer call (areaOf earlier) ≡ tableAnswer call (tableRun earlier)
+pub answer-run : (call : Call) (earlier : List Call) → answer (folded call) (areaOf earlier) ≡ tableAnswer (folded call) (tableRun earlier)
 answer-run call earlier =
-    ap (answer call) (area-run earlier) ∙ answer-encoded (tableRun earlier) (run-sound earlier) (run-whole earlier) call
+    ap (answer (folded call)) (area-run earlier) ∙ answer-encoded (tableRun earlier) (run-sound earlier) (run-whole earlier) (folded call)
 
-pub number-run : (call : Call) (earlier : List Call) → numberOf call earlier ≡ tableAnswer call (tableRun earlier) .number
+pub number-run : (call : Call) (earlier : List Call) → numberOf call earlier ≡ tableAnswer (folded call) (tableRun earlier) .number
 unfolding numberOf
 number-run call earlier = ap (λ (a : Answer). a .number) (answer-run call earlier)
 
@@ -35,7 +35,7 @@ table-run calls = ap decode (area-run calls) ∙ decode-encode (tableRun calls) 
 pub area-sound : (calls : List Call) → sound (areaOf calls) ≡ true
 unfolding areaOf
 area-sound [] = zeros-sound
-area-sound (call ∷ calls) = area-keeps call (areaOf calls) (area-sound calls)
+area-sound (call ∷ calls) = area-keeps (folded call) (areaOf calls) (area-sound calls)
 
 pub never-damaged : (call : Call) (earlier : List Call) → ofTheArea (numberOf call earlier) ≡ false
-never-damaged call earlier = ap ofTheArea (number-run call earlier) ∙ table-number-not call (tableRun earlier)
+never-damaged call earlier = ap ofTheArea (number-run call earlier) ∙ table-number-not (folded call) (tableRun earlier)

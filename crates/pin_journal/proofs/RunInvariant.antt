@@ -8,7 +8,7 @@ use lib.Dec.{eqb}
 use borrow.Author.Tests.{not-true}
 use Rattle.pin_model.specs.Table.{Table, nameRecorded, without, soundTable}
 use Rattle.pin_model.specs.Judge.{Connection, judged, verdict}
-use Rattle.pin_model.specs.Calls.{Call, judge, delete, inspect, start, granted, answerBy, deleted}
+use Rattle.pin_model.specs.Calls.{Call, judge, delete, inspect, start, folded, granted, answerBy, deleted}
 use Rattle.pin_model.proofs.First.{first-number}
 use Rattle.pin_model.proofs.Refusals.{refusal-facts, laterTests}
 use Rattle.pin_model.proofs.SoundFacts.{sound-facts}
@@ -67,4 +67,4 @@ pub run-invariant : (calls : List Call) → Invariant (tableRun calls) (entriesO
 unfolding tableRun entriesOf
 run-invariant [] = begin
 run-invariant (call ∷ calls) =
-    rw (number-run call calls) (call-kept (tableRun calls) (entriesOf calls) (run-invariant calls) (run-sound calls) call)
+    rw (number-run call calls) (call-kept (tableRun calls) (entriesOf calls) (run-invariant calls) (run-sound calls) (folded call))

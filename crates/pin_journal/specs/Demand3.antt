@@ -1,4 +1,5 @@
--- Demand 3: one claim about every list of calls, refused ones included, from an empty table. Assumes nothing.
+-- Demand 3: one claim about every list of calls, refused ones included, from an empty table. It 'reads every name folded'
+-- (document 02, Q-2). Assumes nothing.
 use mathlib.Core.Path.{_≡_}
 use mathlib.Core.Logic.{_↔_}
 use mathlib.Core.Bool.{Bool, true, false, cond, not, _&&_}
@@ -12,20 +13,20 @@ use Rattle.pin_model.specs.Slots.{used}
 use Rattle.pin_model.specs.Table.{KeyRecord, keyIs}
 use Rattle.pin_model.specs.Layout.{areaLength, decode}
 use Rattle.pin_model.specs.Judge.{Connection, tackShown, shows}
-use Rattle.pin_model.specs.Calls.{Call, judge, answer, areaAfter}
+use Rattle.pin_model.specs.Calls.{Call, judge, foldedConnection, folded, answer, areaAfter}
 use Rattle.pin_journal.specs.Journal.{Row, Entry, journal, stands, since, highest, isVerdict, live, rowOf}
 
 -- 'The first call gets 39,432 zero bytes'; 'Each call gets the table as the last one left it.' The newest call comes first.
 unfoldable pub areaOf : List Call → List ℕ
 areaOf [] = replicate areaLength 0
-areaOf (c ∷ cs) = areaAfter c (areaOf cs)
+areaOf (c ∷ cs) = areaAfter (folded c) (areaOf cs)
 
 unfoldable pub numberOf : Call → List Call → ℕ
-numberOf c earlier = answer c (areaOf earlier) .number
+numberOf c earlier = answer (folded c) (areaOf earlier) .number
 
 unfoldable pub entriesOf : List Call → List Entry
 entriesOf [] = []
-entriesOf (c ∷ cs) = record { call = c; number = numberOf c cs } ∷ entriesOf cs
+entriesOf (c ∷ cs) = record { call = folded c; number = numberOf c cs } ∷ entriesOf cs
 
 unfoldable pub rowsOf : List Call → List Row
 rowsOf cs = journal (entriesOf cs)
@@ -72,7 +73,7 @@ Contradiction calls =
     (later earlier : List Call) (c : Connection)
     → calls ≡ later ++ (judge c ∷ earlier)
     → isVerdict (numberOf (judge c) earlier) ≡ true
-    → (numberOf (judge c) earlier ≡ 2) ↔ (any (contradicts c) (rowsOf (judge c ∷ earlier)) ≡ true)
+    → (numberOf (judge c) earlier ≡ 2) ↔ (any (contradicts (foldedConnection c)) (rowsOf (judge c ∷ earlier)) ≡ true)
 
 pub record Demand3 (calls : List Call) : Type 0 where
   pub revocation : Revocation calls

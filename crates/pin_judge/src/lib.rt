@@ -1,4 +1,5 @@
 // Judging one connection: the refusals in the paper's order, then its steps.
+use host_name::folding;
 use pin_answers::Checked;
 use pin_answers::Judgement;
 use pin_answers::Refusal;
@@ -16,7 +17,6 @@ use tack_extension::reader::Reading;
 ghost use mathlib.Core.Path.{_≡_};
 ghost use mathlib.Core.Bool.{true, false};
 ghost use Prim.Native.Nat.{_≤_};
-ghost use lib.IntN.{pos};
 ghost use lib.ListN.{length};
 ghost use Rattle.host_name.specs.Name.{wellFormed};
 ghost use Rattle.tack_extension.specs.Extension.{tackLength, breaksLength};
@@ -27,7 +27,6 @@ ghost use Rattle.pin_model.specs.Judge.{connection, unlessEmpty};
 ghost use Rattle.pin_model.specs.Calls as calls;
 ghost use Rattle.pin_answers.specs.Numbers.{judgementAnswer};
 ghost use Rattle.pin_records.specs.Holds.{Holds, Stored};
-ghost use Rattle.pin_steps.specs.Steps.{verdictBy};
 ghost use Rattle.pin_judge.specs.Applied.{learnBy, crowdedBy, appliedBy, appliedAnswer};
 
 // Steps 1 and 2. The answer is 'no room'.
@@ -117,8 +116,8 @@ fn judge_shown(
 // Where no extension came: what would have come with neither tack nor break signature.
 const NOTHING: [u8; 4] = [0, 0, 0, 0];
 
-// Judges on an area that is known to be sound, as every area of a run is: it makes no test of the whole area.
-pub fn judge_sound_area(
+// A connection with an extension or without one, on a sound area. The name is taken as it stands.
+fn judge_folded(
     area: &mut [u8],
     clock: u64,
     name: &[u8],
@@ -133,7 +132,6 @@ pub fn judge_sound_area(
     requires { ⌜ sound (now area) ≡ true ⌝ }
     ensures answer { λ r. ⌜ judgementAnswer r ≡ calls.answer (calls.judge (connection clock (now (name .entry)) «extension_came» (now (extension .entry)) (now (hash .entry)) «handshake_finished» «key_is_point» «signature_correct» «breaks_correct»)) (now (area .entry)) ⌝ }
     ensures area { λ _. ⌜ now (area .exit) ≡ calls.areaAfter (calls.judge (connection clock (now (name .entry)) «extension_came» (now (extension .entry)) (now (hash .entry)) «handshake_finished» «key_is_point» «signature_correct» «breaks_correct»)) (now (area .entry)) ⌝ }
-    ensures sound { λ _. ⌜ sound (now (area .exit)) ≡ true ⌝ }
 {
     if extension_came {
         return judge_shown(
@@ -161,6 +159,41 @@ pub fn judge_sound_area(
     )
 }
 
+// Judges on an area that is known to be sound, as every area of a run is: it makes no test of the whole area.
+pub fn judge_sound_area(
+    area: &mut [u8],
+    clock: u64,
+    name: &[u8],
+    extension_came: bool,
+    extension: &[u8],
+    hash: &[u8],
+    handshake_finished: bool,
+    key_is_point: bool,
+    signature_correct: bool,
+    breaks_correct: u8,
+) -> Judgement
+    requires { ⌜ sound (now area) ≡ true ⌝ }
+    ensures answer { λ r. ⌜ judgementAnswer r ≡ calls.answer (calls.folded (calls.judge (connection clock (now (name .entry)) «extension_came» (now (extension .entry)) (now (hash .entry)) «handshake_finished» «key_is_point» «signature_correct» «breaks_correct»))) (now (area .entry)) ⌝ }
+    ensures area { λ _. ⌜ now (area .exit) ≡ calls.areaAfter (calls.folded (calls.judge (connection clock (now (name .entry)) «extension_came» (now (extension .entry)) (now (hash .entry)) «handshake_finished» «key_is_point» «signature_correct» «breaks_correct»))) (now (area .entry)) ⌝ }
+    ensures sound { λ _. ⌜ sound (now (area .exit)) ≡ true ⌝ }
+{
+    let mut bytes = [0u8; 254];
+    let n = folding::fold(name, &mut bytes);
+    let folded: &[u8] = &bytes;
+    judge_folded(
+        area,
+        clock,
+        &folded[..n],
+        extension_came,
+        extension,
+        hash,
+        handshake_finished,
+        key_is_point,
+        signature_correct,
+        breaks_correct,
+    )
+}
+
 // Judges one finished connection: 10 to 23, or a verdict and whether there was no room for a record that it wanted.
 pub fn judge(
     area: &mut [u8],
@@ -174,8 +207,8 @@ pub fn judge(
     signature_correct: bool,
     breaks_correct: u8,
 ) -> Judgement
-    ensures answer { λ r. ⌜ judgementAnswer r ≡ calls.answer (calls.judge (connection clock (now (name .entry)) «extension_came» (now (extension .entry)) (now (hash .entry)) «handshake_finished» «key_is_point» «signature_correct» «breaks_correct»)) (now (area .entry)) ⌝ }
-    ensures area { λ _. ⌜ now (area .exit) ≡ calls.areaAfter (calls.judge (connection clock (now (name .entry)) «extension_came» (now (extension .entry)) (now (hash .entry)) «handshake_finished» «key_is_point» «signature_correct» «breaks_correct»)) (now (area .entry)) ⌝ }
+    ensures answer { λ r. ⌜ judgementAnswer r ≡ calls.answer (calls.folded (calls.judge (connection clock (now (name .entry)) «extension_came» (now (extension .entry)) (now (hash .entry)) «handshake_finished» «key_is_point» «signature_correct» «breaks_correct»))) (now (area .entry)) ⌝ }
+    ensures area { λ _. ⌜ now (area .exit) ≡ calls.areaAfter (calls.folded (calls.judge (connection clock (now (name .entry)) «extension_came» (now (extension .entry)) (now (hash .entry)) «handshake_finished» «key_is_point» «signature_correct» «breaks_correct»))) (now (area .entry)) ⌝ }
 {
     if let Checked::Refused(refusal) = pin_checks::check_area(area) {
         return Judgement::Refused(refusal);

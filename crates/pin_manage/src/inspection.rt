@@ -1,4 +1,5 @@
 // Inspection: what a name's record says at a clock, which may lie before latest.
+use host_name::folding;
 use pin_answers::Checked;
 use pin_answers::Inspection;
 use pin_answers::Refusal;
@@ -12,10 +13,9 @@ use pin_table::slots::NameSlot;
 ghost use mathlib.Core.Path.{_≡_};
 ghost use mathlib.Core.Bool.{false};
 ghost use mathlib.Core.Option.{none};
-ghost use Prim.Native.Nat.{_<_, _≤_};
+ghost use Prim.Native.Nat.{_<_};
 ghost use lib.IntN.{pos, _-ℤ_};
 ghost use lib.ListN.{getD};
-ghost use Rattle.pin_model.specs.Table.{clockLimit};
 ghost use Rattle.pin_model.specs.Layout.{decode};
 ghost use Rattle.pin_model.specs.Calls as calls;
 ghost use Rattle.pin_answers.specs.Numbers.{inspectionAnswer};
@@ -48,8 +48,8 @@ fn inspect_slot(area: &[u8], n: NameSlot, clock: Minutes) -> Inspection
     }
 }
 
-// 10, 11, 12, 13, 4, 5 or 6.
-pub fn inspect(area: &[u8], name: &[u8], clock: u64) -> Inspection
+// Inspection by the name as it stands.
+fn inspect_folded(area: &[u8], name: &[u8], clock: u64) -> Inspection
     ensures { λ r. ⌜ inspectionAnswer r ≡ calls.answer (calls.inspect (now (name .entry)) clock) (now (area .entry)) ⌝ }
 {
     if let Checked::Refused(refusal) = pin_checks::check_name(area, name) {
@@ -62,4 +62,14 @@ pub fn inspect(area: &[u8], name: &[u8], clock: u64) -> Inspection
         return Inspection::NotRecorded;
     };
     inspect_slot(area, n, at)
+}
+
+// 10, 11, 12, 13, 4, 5 or 6.
+pub fn inspect(area: &[u8], name: &[u8], clock: u64) -> Inspection
+    ensures { λ r. ⌜ inspectionAnswer r ≡ calls.answer (calls.folded (calls.inspect (now (name .entry)) clock)) (now (area .entry)) ⌝ }
+{
+    let mut bytes = [0u8; 254];
+    let n = folding::fold(name, &mut bytes);
+    let folded: &[u8] = &bytes;
+    inspect_folded(area, &folded[..n], clock)
 }

@@ -30,4 +30,5 @@ pub mod TackShown
 pub mod KeysWhole
 pub mod TableCalls
 pub mod AreaKept
+pub mod LongNames
 pub mod Room

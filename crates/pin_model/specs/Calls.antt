@@ -8,17 +8,35 @@ use lib.IntN.{ℤ, pos, _-ℤ_}
 use lib.Dec.{eqb, ltb}
 use lib.ListN.{length}
 use Rattle.host_name.specs.Name.{wellFormed}
+use Rattle.host_name.specs.Folding.{foldedName}
 use Rattle.pin_model.specs.Slots.{used}
 use Rattle.pin_model.specs.Table.{clockLimit, KeyRecord, NameRecord, Table, empty, keyIs, nameIs, nameRecorded, without}
 use Rattle.pin_model.specs.Layout.{areaLength, encode, decode}
 use Rattle.pin_model.specs.Sound.{sound}
-use Rattle.pin_model.specs.Judge.{Connection, connectionTests, judged, noRoom, verdict}
+use Rattle.pin_model.specs.Judge.{Connection, connection, connectionTests, judged, noRoom, verdict}
 
 pub data Call : Type 0 where
   judge : Connection → Call
   delete : List ℕ → Call
   inspect : List ℕ → ℕ → Call
   start : Call
+
+-- the connection under another name
+abbrev pub named : List ℕ → Connection → Connection
+named name c =
+    connection (c .clock) name (c .extensionCame) (c .extension) (c .hash)
+    (c .handshakeFinished) (c .keyIsPoint) (c .signatureCorrect) (c .breaksCorrect)
+
+-- 'for the folded name' (document 02, Q-2): the definitions below take a name as it stands, and the open functions, the nights
+-- and demand 3 give them the folded call
+abbrev pub foldedConnection : Connection → Connection
+foldedConnection c = named (foldedName (c .name)) c
+
+abbrev pub folded : Call → Call
+folded (judge c) = judge (foldedConnection c)
+folded (delete name) = delete (foldedName name)
+folded (inspect name clock) = inspect (foldedName name) clock
+folded start = start
 
 -- 'Every other field of a refusal, and every inspection field without meaning, is 0 or no.'
 pub record Answer : Type 0 where

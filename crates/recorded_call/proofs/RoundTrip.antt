@@ -12,8 +12,9 @@ use lib.Seq.{take-all, take-append-seam, drop-append-seam}
 use borrow.Author.Tests.{le-leb, eq-eqb}
 use Rattle.octets.specs.Octets.{part, number, bigEndian}
 use Rattle.octets.proofs.Numbers.{Bytes, bytes-front, bytes-behind, number-bigEndian, bigEndian-number, bigEndian-two, bigEndian-length, number-four}
+use Rattle.host_name.specs.Folding.{foldedName}
 use Rattle.pin_model.specs.Judge.{Connection, connection, partsOf, tackShown, enabled, breaksShown, brokenKeys, judged, noRoom, verdict}
-use Rattle.pin_model.specs.Calls.{judge, refusal, answer, areaAfter}
+use Rattle.pin_model.specs.Calls.{judge, folded, refusal, answer, areaAfter}
 use Rattle.recorded_call.specs.RecordedCall.{Front, taken, andThen, field, answersField, extensionField, yes, called, recorded, fieldBytes, answerByte, extensionBytes, callBytes, recordable}
 use Rattle.recorded_call.proofs.Bytes.{field-length, sizes}
 use Rattle.recorded_call.proofs.Taken.{FieldTaken, field-parts, ExtensionTaken, call-parts}
@@ -136,9 +137,10 @@ heard-by clock name true extension hash finished point correct bits area = (refl
 heard-by clock name false extension hash finished point correct bits area = (refl, refl)
 
 pub heard-same : (c : Connection) (area : List ℕ)
-    → (answer (judge (asHeard c)) area ≡ answer (judge c) area) × (areaAfter (judge (asHeard c)) area ≡ areaAfter (judge c) area)
+    → (answer (folded (judge (asHeard c))) area ≡ answer (folded (judge c)) area)
+    × (areaAfter (folded (judge (asHeard c))) area ≡ areaAfter (folded (judge c)) area)
 heard-same c area =
-    heard-by (c .clock) (c .name) (c .extensionCame) (c .extension) (c .hash) (c .handshakeFinished) (c .keyIsPoint)
+    heard-by (c .clock) (foldedName (c .name)) (c .extensionCame) (c .extension) (c .hash) (c .handshakeFinished) (c .keyIsPoint)
     (c .signatureCorrect) (c .breaksCorrect) area
 
 -- one field read and written back; its value and what is behind it are bytes again

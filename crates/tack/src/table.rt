@@ -48,8 +48,8 @@ pub extern "C" fn tack_judge(
     signature_correct: bool,
     breaks_correct: u8,
 ) -> JudgementAnswer
-    ensures answer { λ r. ⌜ r ≡ judgementOf (calls.answer (calls.judge (connection clock (now (name .entry)) «extension_came» (now (extension .entry)) (now («spki_sha256» .entry)) «handshake_finished» «key_is_point» «signature_correct» «breaks_correct»)) (now (table .entry))) ⌝ }
-    ensures table { λ _. ⌜ now (table .exit) ≡ calls.areaAfter (calls.judge (connection clock (now (name .entry)) «extension_came» (now (extension .entry)) (now («spki_sha256» .entry)) «handshake_finished» «key_is_point» «signature_correct» «breaks_correct»)) (now (table .entry)) ⌝ }
+    ensures answer { λ r. ⌜ r ≡ judgementOf (calls.answer (calls.folded (calls.judge (connection clock (now (name .entry)) «extension_came» (now (extension .entry)) (now («spki_sha256» .entry)) «handshake_finished» «key_is_point» «signature_correct» «breaks_correct»))) (now (table .entry))) ⌝ }
+    ensures table { λ _. ⌜ now (table .exit) ≡ calls.areaAfter (calls.folded (calls.judge (connection clock (now (name .entry)) «extension_came» (now (extension .entry)) (now («spki_sha256» .entry)) «handshake_finished» «key_is_point» «signature_correct» «breaks_correct»))) (now (table .entry)) ⌝ }
 {
     match pin_judge::judge(
         table,
@@ -84,8 +84,8 @@ pub extern "C" fn tack_judge(
 
 #[no_mangle]
 pub extern "C" fn tack_delete(table: &mut [u8], name: &[u8]) -> OutcomeAnswer
-    ensures answer { λ r. ⌜ r ≡ outcomeOf (calls.answer (calls.delete (now (name .entry))) (now (table .entry))) ⌝ }
-    ensures table { λ _. ⌜ now (table .exit) ≡ calls.areaAfter (calls.delete (now (name .entry))) (now (table .entry)) ⌝ }
+    ensures answer { λ r. ⌜ r ≡ outcomeOf (calls.answer (calls.folded (calls.delete (now (name .entry)))) (now (table .entry))) ⌝ }
+    ensures table { λ _. ⌜ now (table .exit) ≡ calls.areaAfter (calls.folded (calls.delete (now (name .entry)))) (now (table .entry)) ⌝ }
 {
     let number = pin_answers::deletion_number(deletion::delete(table, name));
     OutcomeAnswer {
@@ -96,7 +96,7 @@ pub extern "C" fn tack_delete(table: &mut [u8], name: &[u8]) -> OutcomeAnswer
 
 #[no_mangle]
 pub extern "C" fn tack_inspect(table: &[u8], name: &[u8], clock: u64) -> InspectionAnswer
-    ensures { λ r. ⌜ r ≡ inspectionOf (calls.answer (calls.inspect (now (name .entry)) clock) (now (table .entry))) ⌝ }
+    ensures { λ r. ⌜ r ≡ inspectionOf (calls.answer (calls.folded (calls.inspect (now (name .entry)) clock)) (now (table .entry))) ⌝ }
 {
     match inspection::inspect(table, name, clock) {
         Inspection::WithoutEnd { floor, initial } => InspectionAnswer {

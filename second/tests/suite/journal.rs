@@ -1,12 +1,14 @@
 //! A plain journal of the calls, which never sees the table, kept beside it.
 //!
 //! Row for row the journal and the table must agree, and so must "no room".
+//! The journal reads every name folded; the calls have any spelling.
 
 use std::collections::{HashMap, HashSet};
 
 use second::{delete, inspect, parse, PinTable};
 
 use crate::calls::*;
+use crate::capitals::{any_spelling, respelled};
 
 const LONGEST: u64 = 43_200;
 
@@ -130,17 +132,18 @@ fn agree_over_a_run(mix: &Mix, calls: usize) -> usize {
     for _ in 0..calls {
         clock += random.below(mix.minutes);
         let name = format!("host{}", random.below(mix.names));
+        let spelling = any_spelling(&mut random, name.as_bytes());
         if random.below(mix.one_deletion_in) == 0 {
             let known = journal.rows.remove(&name).is_some();
             journal.forget_floors();
-            let number = delete(&mut area, name.as_bytes()).number;
+            let number = delete(&mut area, &spelling).number;
             assert_eq!(number, if known { 3 } else { 4 });
         } else {
             let no_room = judge_both(mix, &mut random, &mut journal, &mut area, clock, &name);
             refused_room += usize::from(no_room);
         }
         journal.agrees(&parse(&area).expect("sound"));
-        let number = inspect(&area, name.as_bytes(), 0).number;
+        let number = inspect(&area, &spelling, 0).number;
         assert_eq!(number == 4, !journal.rows.contains_key(&name));
     }
     refused_room
@@ -164,7 +167,8 @@ fn judge_both(
         broken.push(random.below(mix.keys) as u8);
     }
     let bytes = extension_of(shown.as_ref(), &broken);
-    let judgement = Call::at(clock, name).with(bytes).judge(area);
+    let call = Call::at(clock, name).with(bytes);
+    let judgement = respelled(random, &call).judge(area);
     let no_room = journal.judged(clock, name, shown.as_ref(), &broken);
     assert_eq!(judgement.no_room, no_room);
     assert_eq!(latest(area), clock as u32);

@@ -1,6 +1,7 @@
 //! Worked examples, limits and broken rules, by the papers.
 
 mod calls;
+mod capitals;
 mod examples;
 mod extension;
 mod journal;

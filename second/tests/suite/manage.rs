@@ -82,9 +82,9 @@ fn refusals_of_deletion_in_order() {
     let mut damaged = sound.clone();
     damaged[7] = 1;
     let cases: [(&[u8], &[u8], u8); 3] = [
-        (&damaged[1..], b"A", 10),
-        (&damaged, b"A", 11),
-        (&sound, b"A", 12),
+        (&damaged[1..], b"A-", 10),
+        (&damaged, b"A-", 11),
+        (&sound, b"A-", 12),
     ];
     for (area, name, number) in cases {
         let mut after = area.to_vec();
@@ -99,9 +99,9 @@ fn refusals_of_inspection_in_order() {
     let mut damaged = sound.clone();
     damaged[7] = 1;
     let late = 4_294_924_096;
-    assert_eq!(inspect(&[], b"A", late), nothing_shown(10));
-    assert_eq!(inspect(&damaged, b"A", late), nothing_shown(11));
-    assert_eq!(inspect(&sound, b"A", late), nothing_shown(12));
+    assert_eq!(inspect(&[], b"A-", late), nothing_shown(10));
+    assert_eq!(inspect(&damaged, b"A-", late), nothing_shown(11));
+    assert_eq!(inspect(&sound, b"A-", late), nothing_shown(12));
     assert_eq!(inspect(&sound, b"a.b", late), nothing_shown(13));
     assert_eq!(inspect(&sound, b"d", u64::MAX), nothing_shown(13));
 }

@@ -1,6 +1,9 @@
 //! Well-formed and malformed names.
 
 use second::is_well_formed;
+use second::name::is_well_formed_in_table;
+
+use crate::journal::Random;
 
 #[test]
 fn well_formed_names() {
@@ -19,7 +22,10 @@ fn well_formed_names() {
         &labels_of_63,
         &dotted,
     ] {
+        let capitals = name.to_ascii_uppercase();
         assert!(is_well_formed(name.as_bytes()), "{name}");
+        assert!(is_well_formed(capitals.as_bytes()), "{capitals}");
+        assert!(is_well_formed_in_table(name.as_bytes()), "{name}");
     }
 }
 
@@ -40,28 +46,63 @@ fn malformed_names() {
         "a-",
         "a.-b",
         "a-.b",
-        "A",
-        "a.B",
         "a_b",
         "a b",
         "a\0",
         "*.a",
         "\u{e4}",
+        "\u{c4}",
         &too_long,
         &long_label,
         &long_last_label,
     ] {
-        assert!(!is_well_formed(name.as_bytes()), "{name}");
+        let capitals = name.to_ascii_uppercase();
+        for name in [name, &capitals] {
+            assert!(!is_well_formed(name.as_bytes()), "{name}");
+            assert!(!is_well_formed_in_table(name.as_bytes()), "{name}");
+        }
     }
 }
 
 #[test]
 fn bytes_of_a_label() {
     for byte in 0..=255_u8 {
-        let allowed = byte.is_ascii_lowercase() || byte.is_ascii_digit();
-        assert_eq!(is_well_formed(&[byte]), allowed);
+        let small = byte.is_ascii_lowercase() || byte.is_ascii_digit();
+        let allowed = small || byte.is_ascii_uppercase();
+        let joint = byte == b'-' || byte == b'.';
         let inside = [b'a', byte, b'a'];
-        let allowed_inside = allowed || byte == b'-' || byte == b'.';
-        assert_eq!(is_well_formed(&inside), allowed_inside);
+        assert_eq!(is_well_formed(&[byte]), allowed);
+        assert_eq!(is_well_formed(&inside), allowed || joint);
+        assert_eq!(is_well_formed_in_table(&[byte]), small);
+        assert_eq!(is_well_formed_in_table(&inside), small || joint);
     }
+}
+
+#[test]
+fn a_table_has_no_capitals() {
+    for name in ["A", "a.B", "Desk.Example", "xn--A"] {
+        assert!(is_well_formed(name.as_bytes()), "{name}");
+        assert!(!is_well_formed_in_table(name.as_bytes()), "{name}");
+    }
+}
+
+/// Malformed exactly when the folded form is.
+#[test]
+fn any_name_answers_as_its_folded_form() {
+    let bytes = b"aZaZaZ9-.@[\xDA";
+    let mut random = Random(79);
+    let mut well_formed = 0;
+    for _ in 0..20_000 {
+        let length = random.below(12);
+        let mut byte = || bytes[random.below(bytes.len() as u64) as usize];
+        let name: Vec<u8> = (0..length).map(|_| byte()).collect();
+        let folded: Vec<u8> = name
+            .iter()
+            .map(|byte| if *byte == b'Z' { b'z' } else { *byte })
+            .collect();
+        let expected = is_well_formed_in_table(&folded);
+        assert_eq!(is_well_formed(&name), expected, "{name:?}");
+        well_formed += usize::from(expected);
+    }
+    assert!((1000..19_000).contains(&well_formed));
 }

@@ -6,6 +6,7 @@ use second::night::{judge_counted, LONGEST_CALL};
 use second::{read_call, replay, report, write_call, NotRecordable, PinTable, Tally};
 
 use crate::calls::*;
+use crate::capitals::respelled_night;
 use crate::journal::Random;
 
 const K: [u8; 64] = [0x11; 64];
@@ -245,11 +246,13 @@ fn clocks_of_32_bits() {
     reports(&night, "0 0 0 0\n1 13 0 0\n2 13 0 0\ntotal 3\n");
 }
 
-/// A call that meets many of the rules, good or refused.
+/// A call that meets many of the rules, good or refused; its name has no
+/// capitals.
 fn any_call(random: &mut Random, clock: u64) -> Call {
     let mut call = Call::at(clock, &format!("host{}", random.below(140)));
     if random.below(30) == 0 {
-        call.name = vec![b'A'; random.below(301) as usize];
+        // Often too long for a label.
+        call.name = vec![b'a'; random.below(301) as usize];
     }
     call.clock -= 5 * u64::from(random.below(30) == 0);
     call.handshake_finished = random.below(30) != 0;
@@ -350,7 +353,7 @@ fn a_call_across_the_end_of_the_buffer() {
     text.extend((2..calls + 2).map(|index| format!("{index} 1 0 0\n")));
     text += &format!("total {}\n", calls + 2);
     for shift in 0..=call.len() {
-        let mut night = night_of(&[Call::at(1000, &"A".repeat(shift)), e4()]);
+        let mut night = night_of(&[Call::at(1000, &"_".repeat(shift)), e4()]);
         night.extend(call.repeat(calls));
         reports(&night, &text);
     }
@@ -367,6 +370,31 @@ fn nights_by_the_judge_of_the_area() {
         let sum: u32 = tally.counts.iter().sum();
         assert_eq!(sum, 1500);
     }
+}
+
+#[test]
+fn e4_then_e5_in_capitals() {
+    let in_capitals = |call: Call, name: &str| Call {
+        name: name.as_bytes().to_vec(),
+        ..call
+    };
+    let night = night_of(&[in_capitals(e4(), "A.b"), in_capitals(e5(), "a.B")]);
+    reports(&night, "0 0 0 0\n1 1 0 0\ntotal 2\n");
+}
+
+/// The report is that on small letters; every verdict is among its lines, and
+/// the refusal of a malformed name.
+#[test]
+fn a_night_of_mixed_spellings() {
+    let calls = any_night(7, 3000);
+    let (text, tally) = expected(&calls);
+    for number in [0, 1, 2, 12] {
+        assert_ne!(tally.counts[number], 0, "{number}");
+    }
+    let night = night_of(&respelled_night(8, &calls));
+    assert!(night != night_of(&calls));
+    reports(&night, &text);
+    assert_eq!(replay(night.as_slice(), io::sink()).unwrap(), tally);
 }
 
 /// A bad call is neither judged nor counted, and nothing is read after it.
@@ -419,6 +447,8 @@ fn the_writer_goes_round() {
     let mut calls = any_night(4, 300);
     calls.push(Call::at(u64::from(u32::MAX), &"a".repeat(300)).with(vec![1; 4096]));
     calls.push(Call::at(0, "").with(Vec::new()));
+    // A recorded name keeps its spelling.
+    calls.push(Call::at(1000, "Desk.Example"));
     for call in &calls {
         assert_eq!(write_call(&call.connection(), &mut night), Ok(()));
     }
@@ -458,7 +488,9 @@ fn the_writer_refuses_what_cannot_be_recorded() {
 
 #[test]
 fn the_tally_counts_each_number() {
-    let calls = [e4(), e5(), e5(), Call::at(1599, "a.b"), Call::at(1600, "A")];
+    let early = Call::at(1599, "a.b");
+    let malformed = Call::at(1600, "A-");
+    let calls = [e4(), e5(), e5(), early, malformed];
     let tally = replay(night_of(&calls).as_slice(), io::sink()).unwrap();
     let mut counts = [0; 32];
     (counts[0], counts[1], counts[12], counts[14]) = (1, 2, 1, 1);

@@ -36,7 +36,7 @@ fn alerts() {
 fn worst_call() -> Call {
     Call {
         clock: 4_294_924_096,
-        name: b"A".to_vec(),
+        name: b"A-".to_vec(),
         extension: Some(vec![9]),
         hash: vec![0; 32],
         handshake_finished: false,

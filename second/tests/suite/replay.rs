@@ -5,6 +5,7 @@ use std::io::Write;
 use std::process::{Child, Command, Output, Stdio};
 use std::thread;
 
+use crate::capitals::respelled_night;
 use crate::night::{any_night, e4, e5, expected, night_of};
 
 fn program(arguments: &[&str]) -> Command {
@@ -43,6 +44,14 @@ fn reports_and_tallies() {
     writes(run(&[], night.clone()), 0, report, "");
     writes(run(&["tally"], night), 0, report, "0 1\n1 1\n");
     writes(run(&["tally"], Vec::new()), 0, "total 0\n", "");
+}
+
+#[test]
+fn capitals_make_no_difference() {
+    let calls = any_night(2, 1000);
+    let (text, tally) = expected(&calls);
+    let night = night_of(&respelled_night(3, &calls));
+    writes(run(&["tally"], night), 0, &text, &tally.to_string());
 }
 
 #[test]

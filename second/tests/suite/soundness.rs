@@ -136,6 +136,26 @@ fn names() {
     is_damaged(&twice, Damage::NameTwice);
 }
 
+/// Callers may write capitals, a table may not; so nothing folds them away.
+#[test]
+fn a_capital_is_damage() {
+    let malformed = Damage::NameMalformed;
+    for capital in b'A'..=b'Z' {
+        is_damaged(&changed(FIRST_NAME + 16, &[capital]), malformed);
+        is_damaged(&changed(FIRST_NAME + 18, &[capital]), malformed);
+    }
+    let mut area = changed(FIRST_NAME + 16, b"A.B");
+    is_damaged(&area, malformed);
+    Call::at(5000, "A.B").is_refused(&area, 11, 0);
+    assert_eq!(inspect(&area, b"A.B", 5000).number, 11);
+    assert_eq!(delete(&mut area, b"A.B").number, 11);
+
+    // The other spelling of a recorded name is no second record of it either.
+    let mut beside = changed(SECOND_NAME + 2, &[3]);
+    beside[SECOND_NAME + 16..SECOND_NAME + 19].copy_from_slice(b"A.B");
+    is_damaged(&beside, malformed);
+}
+
 #[test]
 fn key_slot_of_a_name() {
     let third_name = |key_slot: u8| {

@@ -4,6 +4,7 @@ use second::extension::{breaks_span, read, signed_bytes, tack_span, write};
 use second::{delete, inspect, is_sound, is_well_formed, start};
 
 use crate::calls::*;
+use crate::capitals::{any_spelling, respelled};
 use crate::journal::Random;
 
 fn bytes(random: &mut Random, longest: u64) -> Vec<u8> {
@@ -12,7 +13,8 @@ fn bytes(random: &mut Random, longest: u64) -> Vec<u8> {
     let kind = random.below(3);
     let byte = |random: &mut Random| match kind {
         0 => random.below(3) as u8,
-        1 => b'a' + random.below(26) as u8,
+        // From A to z, with the bytes between the capitals and the small letters.
+        1 => b'A' + random.below(58) as u8,
         _ => random.below(256) as u8,
     };
     (0..length).map(|_| byte(random)).collect()
@@ -63,8 +65,9 @@ fn areas_with_a_few_changed_bytes() {
 
 fn answers_are_consistent(random: &mut Random, area: &[u8]) {
     let name = format!("host{}", random.below(12));
+    let spelling = any_spelling(random, name.as_bytes());
     let clock = [0, 999, 1000, 1001, 50_000, u64::MAX][random.below(6) as usize];
-    let mut call = Call::at(clock, &name);
+    let mut call = respelled(random, &Call::at(clock, &name));
     if random.below(2) == 0 {
         call = call.with(showing(key(random.below(6) as u8)));
     }
@@ -79,7 +82,7 @@ fn answers_are_consistent(random: &mut Random, area: &[u8]) {
     });
 
     let mut after = area.to_vec();
-    let number = delete(&mut after, name.as_bytes()).number;
+    let number = delete(&mut after, &spelling).number;
     assert_eq!(number == 3 || number == 4, sound);
     assert!(if number == 3 {
         is_sound(&after)
@@ -87,7 +90,7 @@ fn answers_are_consistent(random: &mut Random, area: &[u8]) {
         after == area
     });
 
-    inspect(area, name.as_bytes(), clock);
+    inspect(area, &spelling, clock);
     let mut after = area.to_vec();
     assert_eq!(start(&mut after).number == 7, area.len() == 39_432);
 }

@@ -7,7 +7,7 @@
 pub struct Connection<'a> {
     /// The time in whole minutes since 1970, 4,294,924,095 at most.
     pub clock: u64,
-    /// The server's host name.
+    /// The server's host name, in letters of either case: A-Z is taken as a-z.
     pub name: &'a [u8],
     /// The TACK extension's bytes, if one came.
     pub extension: Option<&'a [u8]>,

@@ -4,7 +4,7 @@ use Prim.Native.Nat.{_+_}
 use denote.Ref.{now}
 use Rattle.octets.specs.Octets.{part}
 use Rattle.pin_model.specs.Judge.{Connection}
-use Rattle.pin_model.specs.Calls.{judge, answer, areaAfter}
+use Rattle.pin_model.specs.Calls.{judge, folded, answer, areaAfter}
 use Rattle.night_play.proofs.OneTurn.{call-read, part-between}
 use borrow.Author.Needs.{needs}
 use Rattle.night_play.proofs.judge_call.Statement.{statement}
@@ -77,7 +77,7 @@ returns c =
     let a = c .before .before .before .before .before .before .before .before .before .before .before .before .before .before .before .args in
     let same = call-read (now (a .night)) (a .name-end) (a .extension-came) (a .after) (c .before .before .before .before .before .before .before .before .before .before .u32-at .ensures) refl (c .before .before .before .before .before .before .before .before .extension-at .ensures) (part-between (now (a .night)) (a .name-end + 8) 32) (c .before .before .before .before .before .before .is-yes .ensures) (c .before .before .before .before .before .is-yes2 .ensures) (c .before .before .before .before .is-yes3 .ensures) refl in
     let e = c .before .before .judge-sound-area .ensures in
-    (e .0 ∙ ap (λ (k : Connection). answer (judge k) (now (a .area))) same, (e .1 .0 ∙ ap (λ (k : Connection). areaAfter (judge k) (now (a .area))) same, e .1 .1))
+    (e .0 ∙ ap (λ (k : Connection). answer (folded (judge k)) (now (a .area))) same, (e .1 .0 ∙ ap (λ (k : Connection). areaAfter (folded (judge k)) (now (a .area))) same, e .1 .1))
 
 pub judge-call-spec : {M : Type 1} → statement M
 judge-call-spec =

@@ -1,50 +1,59 @@
--- With an extension or without one; what judging leaves of a sound area is sound. Assumes nothing.
-use mathlib.Core.Path.{_≡_, ap, _∙_}
+-- The name that is handed on is the folded one, cut at 254 bytes; what judging leaves of a sound area is sound. Assumes nothing.
+use mathlib.Core.Path.{sym, ap, _∙_}
+use mathlib.Core.List.{List}
+use Prim.Native.Nat.{ℕ}
+use native.Mathlib.Omega.{arith}
+use lib.ListN.{length-take}
+use lib.Seq.{length-take-le}
 use borrow.Author.Needs.{needs}
+use Rattle.host_name.specs.Folding.{foldedName}
+use Rattle.host_name.proofs.Folded.{front, room}
 use Rattle.pin_model.specs.Sound.{sound}
+use Rattle.pin_model.specs.Judge.{connection}
+use Rattle.pin_model.specs.Calls.{judge, named, answer, areaAfter}
 use Rattle.pin_model.proofs.AreaKept.{area-keeps}
-use Rattle.pin_judge.proofs.ByParts.{absent-answer, absent-area}
+use Rattle.pin_model.proofs.LongNames.{cut-judge}
 use Rattle.pin_judge.proofs.judge_sound_area.Statement.{statement}
 use Rattle.pin_judge.proofs.judge_sound_area.Tie as tie
 
-judge-shown-requires : tie.Need-judge-shown-requires
-judge-shown-requires c κs = search needs
+fold-requires : tie.Need-fold-requires
+fold-requires c κs = search needs
+
+slice-aggregate-folded : tie.Need-slice-aggregate-folded
+slice-aggregate-folded c = sym (room (c .before .before .before .before .before .before .before .args .name .now) (c .before .fold .ensures))
+
+slice-aggregate-judge-folded : tie.Need-slice-aggregate-judge-folded
+slice-aggregate-judge-folded c =
+    let s = c .before .before .before .before .before .before .before .before .before .args .name .now in
+    let wrote = c .before .before .before .fold .ensures in
+    sym (length-take-le _ _ (omega (arith, room s wrote, wrote .0, length-take 254 s)))
+
+judge-folded-requires : tie.Need-judge-folded-requires
+judge-folded-requires c κs = search needs
 
 same-length : tie.Need-same-length
 same-length c = search needs
 
 returns : tie.Need-returns
 returns c =
-    let w = c .before .before .judge-shown .ensures in
-    rw (c .before .before .before .before .if1 .taken)
-    (w .0, (w .1, ap sound (w .1) ∙ area-keeps _ _ (c .before .before .before .before .before .before .before .before .before .pre)))
-
-slice-aggregate-judge-shown : tie.Need-slice-aggregate-judge-shown
-slice-aggregate-judge-shown c = search needs
-
-judge-shown-requires-2 : tie.Need-judge-shown-requires-2
-judge-shown-requires-2 c κs = search needs
-
-same-length-2 : tie.Need-same-length-2
-same-length-2 c = search needs
-
-returns-2 : tie.Need-returns-2
-returns-2 c =
-    let s = c .before .before .before .before .before .before .before .before .before .before in
-    let w = c .before .before .judge-shown2 .ensures in
-    rw (c .before .before .before .before .before .if1 .left) (
-      w .0 ∙ absent-answer (s .args .clock) (s .args .name .now) (s .args .hash .now) (s .args .handshake-finished) (s .args .key-is-point) (s .args .signature-correct) (s .args .breaks-correct) (s .args .extension .now) (s .args .area .now),
-      (w .1 ∙ absent-area (s .args .clock) (s .args .name .now) (s .args .hash .now) (s .args .handshake-finished) (s .args .key-is-point) (s .args .signature-correct) (s .args .breaks-correct) (s .args .extension .now) (s .args .area .now), ap sound (w .1) ∙ area-keeps _ _ (s .pre)),
+    let s = c .before .before .before .before .before .before .before .before .before .before .before .before in
+    let a = s .args in
+    let whole = connection (a .clock) (a .name .now) (a .extension-came) (a .extension .now) (a .hash .now) (a .handshake-finished) (a .key-is-point) (a .signature-correct) (a .breaks-correct) in
+    let its = front (a .name .now) (c .before .before .before .before .before .before .fold .ensures) in
+    let same = cut-judge whole (foldedName (a .name .now)) (a .area .now) in
+    let w = c .before .before .judge-folded .ensures in
+    let area = w .1 ∙ ap (λ (name : List ℕ). areaAfter (judge (named name whole)) (a .area .now)) its ∙ same .1 in (
+      w .0 ∙ ap (λ (name : List ℕ). answer (judge (named name whole)) (a .area .now)) its ∙ same .0,
+      (area, ap sound area ∙ area-keeps _ _ (s .pre)),
     )
 
 pub judge-sound-area-spec : {M : Type 1} → statement M
 judge-sound-area-spec =
     tie.close
     (tie.spec
-    judge-shown-requires
+    fold-requires
+    slice-aggregate-folded
+    slice-aggregate-judge-folded
+    judge-folded-requires
     same-length
-    returns
-    slice-aggregate-judge-shown
-    judge-shown-requires-2
-    same-length-2
-    returns-2)
+    returns)
