@@ -10,21 +10,21 @@ use lib.ListN.{length, take, drop}
 use Rattle.host_name.specs.Name.{wellFormed}
 use Rattle.host_name.proofs.Cut.{cut}
 use Rattle.pin_model.specs.Table.{clockLimit}
-use Rattle.pin_model.specs.Layout.{areaLength, encode, decode}
+use Rattle.pin_model.specs.Layout.{areaLength, decode}
 use Rattle.pin_model.specs.Sound.{sound}
 use Rattle.pin_model.specs.Judge.{Connection, connectionTests}
-use Rattle.pin_model.specs.Calls.{Call, judge, delete, inspect, named, first, areaTests, refusal, granted, tableAfter, answerBy, answer, areaBy, areaAfter}
+use Rattle.pin_model.specs.Calls.{Call, judge, delete, inspect, named, first, areaTests, refusal, granted, answerBy, answer, areaAfter}
+use Rattle.pin_model.proofs.AreaKept.{refused-same}
 
 -- one answer, and one area after
 abbrev pub Same : Call → Call → Type 0
 Same a c = (b : List ℕ) → (answer a b ≡ answer c b) × (areaAfter a b ≡ areaAfter c b)
 
 refused-alike : (a c : Call) (n : List ℕ → ℕ) → ((b : List ℕ) → refusal a b ≡ some (n b)) → ((b : List ℕ) → refusal c b ≡ some (n b)) → Same a c
-unfolding answer areaAfter
+unfolding answer
 refused-alike a c n e d b = (
   ap (λ (o : Option ℕ). answerBy o (granted a (decode b))) (e b) ∙ sym (ap (λ (o : Option ℕ). answerBy o (granted c (decode b))) (d b)),
-  ap (λ (o : Option ℕ). areaBy o b (encode (tableAfter a (decode b)))) (e b)
-      ∙ sym (ap (λ (o : Option ℕ). areaBy o b (encode (tableAfter c (decode b)))) (d b)),
+  refused-same a b (n b) (e b) ∙ sym (refused-same c b (n b) (d b)),
 )
 
 -- what a malformed name is told, whatever the tests behind it
