@@ -9,6 +9,7 @@ pub mod TableRun
 pub mod TableNumbers
 pub mod Run
 pub mod RunInvariant
+pub mod RowClocks
 pub mod Floors
 pub mod Revocation
 pub mod Contradiction

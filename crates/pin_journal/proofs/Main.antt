@@ -6,6 +6,7 @@ use Rattle.pin_journal.proofs.Revocation.{revocation}
 use Rattle.pin_journal.proofs.Floors.{floors}
 use Rattle.pin_journal.proofs.Contradiction.{contradiction}
 pub use Rattle.pin_journal.proofs.Run.{area-run, answer-run, table-run, area-sound, never-damaged}
+pub use Rattle.pin_journal.proofs.RowClocks.{seenEarly, never-early}
 pub use Rattle.pin_journal.proofs.Spellings.{one-name, one-run, table-small, capital-damaged, as-before}
 
 pub demand3 : (calls : List Call) → Demand3 calls

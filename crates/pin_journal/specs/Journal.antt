@@ -25,7 +25,7 @@ rowOf n r = same (r .name) n
 abbrev pub rowKey : List ℕ → Row → Bool
 rowKey k r = same (r .key) k
 
--- 'Live means that t is there and the clock is before t + min(43,200, t - i).'
+-- 'Live means that t is there and the clock is before t + min(43,200, t - i).' In the journal of a run t is never before i.
 abbrev pub liveBy : ℕ → ℕ → Option ℕ → Bool
 liveBy clock i none = false
 liveBy clock i (some t) = ltb clock (t + min 43200 (t - i))

@@ -1,26 +1,33 @@
 -- The area's refusals; where an extension came, the later ones, what is known where none applies, and the answer then. Assumes nothing.
 use mathlib.Core.Path.{_≡_, refl, sym, ap, ap₂, _∙_}
-use mathlib.Core.Bool.{Bool, true, false, cond, not}
+use mathlib.Core.Bool.{Bool, true, false, cond}
 use mathlib.Core.List.{List, [], _∷_, _++_}
 use mathlib.Core.Option.{Option, none, some}
 use Prim.Native.Nat.{ℕ, _≤_}
 use lib.Dec.{eqb, ltb}
-use lib.ListN.{length}
+use lib.ListN.{length, getD}
+use borrow.Author.Tests.{ltb-false, le-ltb}
 use Rattle.octets.proofs.Tests.{and-left, and-right}
+use Rattle.octets.proofs.Numbers.{Bytes}
 use Rattle.host_name.specs.Name.{wellFormed}
-use Rattle.tack_extension.specs.Extension.{Parts, parse, tackOf, breaksOf, tackPart, breaksPart, tackLength, breaksLength}
+use Rattle.tack_extension.specs.Extension.{parse, tackPart, breaksPart, tackLength, breaksLength}
 use Rattle.tack_extension.specs.Answers.{readingOf}
 use Rattle.tack_extension.specs.declared.reader.Reading.the-variants.{WellFormed, Malformed}
 use Rattle.tack_extension.proofs.Steps.{clash, byOption}
 use Rattle.tack_extension.proofs.RoundTrip.{reads-good}
 use Rattle.pin_model.specs.Table.{clockLimit, Table}
 use Rattle.pin_model.specs.Layout.{encode, decode}
+use Rattle.pin_model.specs.Sound.{sound}
 use Rattle.pin_model.specs.Judge.{Connection, connection, partsOf, tackShown, breaksShown, isNone, isEnabled, connectionTests}
 use Rattle.pin_model.specs.Calls.{Answer, plain, judge, first, areaTests, refusal, answer, areaAfter}
-use Rattle.pin_model.proofs.Refusals.{ConnectionFacts, refusal-facts, refusal-later}
+use Rattle.pin_model.proofs.First.{passed}
+use Rattle.pin_answers.specs.Numbers.{checkedNumber}
+use Rattle.pin_answers.specs.declared.Checked.{Checked}
+use Rattle.pin_answers.specs.declared.Checked.the-variants.{Passed}
 use Rattle.pin_checks.specs.Tests.{namedTests}
-use Rattle.pin_checks.proofs.Passed.{first-here, first-later, call-refused, call-granted}
+use Rattle.pin_checks.proofs.Passed.{first-here, first-later, area-passes, named-passes, call-refused, call-granted, Ready, ready}
 use Rattle.pin_tests.specs.Tests.{shownTests}
+use Rattle.pin_judge.specs.Known.{Admitted, InOrder}
 use Rattle.pin_judge.specs.Applied.{appliedBy, appliedAnswer}
 use Rattle.pin_judge.proofs.ByParts.{granted-by, after-by}
 
@@ -50,6 +57,17 @@ sized s a e =
     })
     (λ f. let k : Malformed ≡ WellFormed a = sym (ap readingOf f) ∙ e in clash (cc))
 
+-- the steps by the parts that the reader gives are the steps by the extension
+pub applied-parts : (s : List ℕ) (a : ℕ) → readingOf (parse s) ≡ WellFormed a → (name : List ℕ) (clock : ℕ) (tack breaks : List ℕ) (t : Table)
+    → tack ≡ tackPart s → breaks ≡ breaksPart s
+    → (appliedAnswer (eqb a 1) name clock tack breaks t ≡ appliedAnswer (isEnabled (parse s)) name clock (tackPart s) (breaksPart s) t)
+    × (appliedBy (eqb a 1) name clock tack breaks t ≡ appliedBy (isEnabled (parse s)) name clock (tackPart s) (breaksPart s) t)
+applied-parts s a e name clock tack breaks t et eb =
+    let on : eqb a 1 ≡ isEnabled (parse s) = sym (sized s a e .on) in (
+      ap (λ (o : Bool). appliedAnswer o name clock tack breaks t) on ∙ ap₂ (λ (x y : List ℕ). appliedAnswer (isEnabled (parse s)) name clock x y t) et eb,
+      ap (λ (o : Bool). appliedBy o name clock tack breaks t) on ∙ ap₂ (λ (x y : List ℕ). appliedBy (isEnabled (parse s)) name clock x y t) et eb,
+    )
+
 module _ (clock : ℕ) (name bytes hash : List ℕ) (finished point correct : Bool) (bits : ℕ) (b : List ℕ) where
   abbrev it : Connection
   it = connection clock name true bytes hash finished point correct bits
@@ -64,46 +82,46 @@ module _ (clock : ℕ) (name bytes hash : List ℕ) (finished point correct : Bo
   pub refused-named : (n : ℕ) → first (namedTests b name) ≡ some n → (plain n ≡ answer (judge it) b) × (b ≡ areaAfter (judge it) b)
   refused-named n e = call-refused (judge it) b n (refusal-shown ∙ first-here (namedTests b name) later n e)
 
-  module _ (named : first (namedTests b name) ≡ none) where
-    pub refused-late : ltb clockLimit clock ≡ true → (plain 13 ≡ answer (judge it) b) × (b ≡ areaAfter (judge it) b)
-    refused-late late = call-refused (judge it) b 13 (refusal-shown ∙ first-later (namedTests b name) later named ∙ simp late)
+  pub refused-late : first (namedTests b name) ≡ none → ltb clockLimit clock ≡ true → (plain 13 ≡ answer (judge it) b) × (b ≡ areaAfter (judge it) b)
+  refused-late named late = call-refused (judge it) b 13 (refusal-shown ∙ first-later (namedTests b name) later named ∙ simp late)
 
-    module _ (inTime : ltb clockLimit clock ≡ false) where
-      then : refusal (judge it) b ≡ first (shownTests clock finished bytes bits point hash correct (decode b))
-      then = refusal-shown ∙ first-later (namedTests b name) later named ∙ ap (λ (o : Bool). cond o (some 13) (first (shownTests clock finished bytes bits point hash correct (decode b)))) inTime
+  -- 14 to 23
+  abbrev shown : Option ℕ
+  shown = first (shownTests clock finished bytes bits point hash correct (decode b))
 
-      pub refused-shown : (n m : ℕ) → m ≡ clock → first (shownTests m finished bytes bits point hash correct (decode b)) ≡ some n
-          → (plain n ≡ answer (judge it) b) × (b ≡ areaAfter (judge it) b)
-      refused-shown n m at e =
-          call-refused (judge it) b n (then ∙ ap (λ (k : ℕ). first (shownTests k finished bytes bits point hash correct (decode b))) (sym at) ∙ e)
+  module _ (h : sound b ≡ true) (known : Admitted b name clock) where
+    then : refusal (judge it) b ≡ shown
+    then =
+        refusal-shown
+        ∙ first-later (namedTests b name) later (named-passes b name (area-passes b h) (known .nameFormed))
+        ∙ ap (λ (o : Bool). cond o (some 13) shown) (le-ltb clockLimit clock (known .clockInLimit))
 
-      module _ (m : ℕ) (at : m ≡ clock) (passed : first (shownTests m finished bytes bits point hash correct (decode b)) ≡ none) where
-        pub none-refused : refusal (judge it) b ≡ none
-        none-refused = then ∙ ap (λ (k : ℕ). first (shownTests k finished bytes bits point hash correct (decode b))) (sym at) ∙ passed
+    pub refused-shown : (n : ℕ) → shown ≡ some n → (plain n ≡ answer (judge it) b) × (b ≡ areaAfter (judge it) b)
+    refused-shown n e = call-refused (judge it) b n (then ∙ e)
 
-        pub facts : ConnectionFacts it (decode b)
-        facts = refusal-facts it (decode b) (refusal-later (judge it) b none-refused)
+    -- where the tests pass, the steps give the answer
+    pub judged-so : shown ≡ none → (x : Answer) (after : List ℕ)
+        → (x ≡ appliedAnswer (isEnabled (parse bytes)) name clock (tackPart bytes) (breaksPart bytes) (decode b))
+        × (after ≡ encode (appliedBy (isEnabled (parse bytes)) name clock (tackPart bytes) (breaksPart bytes) (decode b)))
+        → (x ≡ answer (judge it) b) × (after ≡ areaAfter (judge it) b)
+    unfolding partsOf tackPart breaksPart
+    judged-so passes x after w =
+        let g = call-granted (judge it) b (then ∙ passes) in
+        (w .0 ∙ sym (granted-by it (decode b)) ∙ g .0, w .1 ∙ ap encode (sym (after-by it (decode b))) ∙ g .1)
 
-        pub reads : isNone (parse bytes) ≡ false
-        unfolding partsOf
-        reads = facts .extensionRead
+  -- what the tests that passed say: 14, and 16
+  module _ (r : Checked) (its : checkedNumber r ≡ shown) (passes : r ≡ Passed) where
+    testAt : (i : ℕ) → getD (shownTests clock finished bytes bits point hash correct (decode b)) i (false, 0) .0 ≡ false
+    testAt = passed (shownTests clock finished bytes bits point hash correct (decode b)) (sym its ∙ ap checkedNumber passes)
 
-        pub judged-so : (a : ℕ) (x : Answer) (after : List ℕ) → readingOf (parse bytes) ≡ WellFormed a
-            → (tack breaks : List ℕ) → tack ≡ tackPart bytes → breaks ≡ breaksPart bytes
-            → (x ≡ appliedAnswer (eqb a 1) name m tack breaks (decode b)) × (after ≡ encode (appliedBy (eqb a 1) name m tack breaks (decode b)))
-            → (x ≡ answer (judge it) b) × (after ≡ areaAfter (judge it) b)
-        unfolding partsOf tackPart breaksPart
-        judged-so a x after e tack breaks et eb w =
-            let on : eqb a 1 ≡ isEnabled (parse bytes) = sym (sized bytes a e .on) in
-            let g = call-granted (judge it) b none-refused in (
-              w .0
-                  ∙ ap₂ (λ (k : ℕ) (o : Bool). appliedAnswer o name k tack breaks (decode b)) at on
-                  ∙ ap₂ (λ (s r : List ℕ). appliedAnswer (isEnabled (parse bytes)) name clock s r (decode b)) et eb
-                  ∙ sym (granted-by it (decode b))
-                  ∙ g .0,
-              w .1
-                  ∙ ap₂ (λ (k : ℕ) (o : Bool). encode (appliedBy o name k tack breaks (decode b))) at on
-                  ∙ ap₂ (λ (s r : List ℕ). encode (appliedBy (isEnabled (parse bytes)) name clock s r (decode b))) et eb
-                  ∙ ap encode (sym (after-by it (decode b)))
-                  ∙ g .1,
-            )
+    pub passed-in-order : Admitted b name clock → InOrder b name clock
+    passed-in-order known = record { admitted = known; clockInOrder = ltb-false clock (decode b .latest) (testAt 0) }
+
+    pub passed-read : isNone (parse bytes) ≡ false
+    passed-read = testAt 2
+
+-- 10 to 13
+pub sound-admitted : (b name : List ℕ) (clock : ℕ) → Bytes b → sound b ≡ true → wellFormed name ≡ true → clock ≤ clockLimit → Admitted b name clock
+sound-admitted b name clock byte h formed inLimit =
+    let found : Ready b = ready b [] byte (area-passes b h) in
+    record { stored = found .stored; tableSound = found .tableSound; nameFormed = formed; clockInLimit = inLimit }

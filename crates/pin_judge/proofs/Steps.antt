@@ -1,26 +1,31 @@
 -- What the area holds after steps 1 and 2, and after all of them. Assumes nothing.
 use mathlib.Core.Path.{_≡_, refl, sym, ap, ap₂, subst, _∙_}
 use mathlib.Core.Bool.{Bool, true, false}
-use mathlib.Core.List.{List, [], _∷_, map}
+use mathlib.Core.List.{List, map}
 use mathlib.Core.Option.{Option, none, some}
 use Prim.Native.Nat.{ℕ, _≤_}
 use lib.IntN.{pos}
-use lib.ListN.{length}
-use Rattle.host_name.specs.Name.{wellFormed}
 use Rattle.tack_extension.specs.Tack.{breakKey, breakSignatures}
 use Rattle.pin_model.specs.Table.{clockLimit, Table, soundTable}
 use Rattle.pin_model.specs.Layout.{encode, decode}
 use Rattle.pin_model.specs.Judge.{raise, create, unlessEmpty}
 use Rattle.pin_model.specs.Calls.{Answer}
-use Rattle.pin_records.specs.Holds.{Holds, Stored, withLatest}
+use Rattle.pin_model.proofs.Initials.{BegunBy, record-initial}
+use Rattle.pin_records.specs.Holds.{Holds, withLatest}
 use Rattle.pin_records.proofs.HeldSlots.{holds-decode, holds-stored}
 use Rattle.pin_steps.specs.Steps.{of, extendBy, crowded, breakBy, verdictBy}
+use Rattle.pin_judge.specs.Known.{InOrder}
 use Rattle.pin_judge.specs.Applied.{learnBy, crowdedBy, settled, appliedBy, appliedAnswer}
-use Rattle.pin_judge.proofs.Learnt.{extended-sound, not-extended}
+use Rattle.pin_judge.proofs.Learnt.{extended-sound}
 
 -- what the answer of steps 1 and 2 says, by the tack that is shown
 abbrev Learnt : Bool → List ℕ → ℕ → Table → Bool → List ℕ → Option (List ℕ) → Type 0
 Learnt on name clock t r d shown = (r ≡ crowdedBy on name clock shown t) × Holds d (learnBy on name clock shown t)
+
+-- step 1 touches no name record
+pub raised-begun : {b name : List ℕ} {clock : ℕ} (tack : List ℕ) (u : Table) → u ≡ raise tack (decode b) → InOrder b name clock → BegunBy clock u
+raised-begun {b} {name} {clock} tack u its known =
+    subst (BegunBy clock) (sym its) (record-initial (decode b) clock (known .admitted .tableSound) (known .clockInOrder))
 
 module _ (on : Bool) (name : List ℕ) (clock : ℕ) (tack : List ℕ) (t : Table) where
   pub nothing-shown : {d : List ℕ} → unlessEmpty tack ≡ none → Holds d t

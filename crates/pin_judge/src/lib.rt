@@ -16,22 +16,20 @@ use tack_extension::reader;
 use tack_extension::reader::Reading;
 ghost use mathlib.Core.Path.{_≡_};
 ghost use mathlib.Core.Bool.{true, false};
-ghost use Prim.Native.Nat.{_≤_};
 ghost use lib.ListN.{length};
-ghost use Rattle.host_name.specs.Name.{wellFormed};
-ghost use Rattle.tack_extension.specs.Extension.{tackLength, breaksLength};
-ghost use Rattle.pin_model.specs.Table.{clockLimit, soundTable};
+ghost use Rattle.tack_extension.specs.Extension.{parse, tackLength, tackPart, breaksLength, breaksPart};
 ghost use Rattle.pin_model.specs.Layout.{decode, encode};
 ghost use Rattle.pin_model.specs.Sound.{sound};
-ghost use Rattle.pin_model.specs.Judge.{connection, unlessEmpty};
+ghost use Rattle.pin_model.specs.Judge.{connection, unlessEmpty, isNone, isEnabled};
 ghost use Rattle.pin_model.specs.Calls as calls;
 ghost use Rattle.pin_answers.specs.Numbers.{judgementAnswer};
-ghost use Rattle.pin_records.specs.Holds.{Holds, Stored};
+ghost use Rattle.pin_records.specs.Holds.{Holds};
+ghost use Rattle.pin_judge.specs.Known.{Admitted, InOrder};
 ghost use Rattle.pin_judge.specs.Applied.{learnBy, crowdedBy, appliedBy, appliedAnswer};
 
 // Steps 1 and 2. The answer is 'no room'.
 fn learn(area: &mut [u8], name: &[u8], clock: Minutes, tack: &[u8], enabled: bool) -> bool
-    requires { ⌜ Stored (now area) × (soundTable (decode (now area)) ≡ true) × (wellFormed (now name) ≡ true) × (decode (now area) .latest ≤ clock .0) × (clock .0 ≤ clockLimit) × (tackLength (length (now tack)) ≡ true) ⌝ }
+    requires { ⌜ InOrder (now area) (now name) (clock .0) × (tackLength (length (now tack)) ≡ true) ⌝ }
     ensures { λ r. ⌜ (r ≡ crowdedBy enabled (now (name .entry)) (clock .0) (unlessEmpty (now (tack .entry))) (decode (now (area .entry)))) × Holds (now (area .exit)) (learnBy enabled (now (name .entry)) (clock .0) (unlessEmpty (now (tack .entry))) (decode (now (area .entry)))) ⌝ }
 {
     if tack.len() == 0 {
@@ -54,7 +52,7 @@ fn apply(
     broken: &[u8],
     enabled: bool,
 ) -> Judgement
-    requires { ⌜ Stored (now area) × (soundTable (decode (now area)) ≡ true) × (wellFormed (now name) ≡ true) × (decode (now area) .latest ≤ clock .0) × (clock .0 ≤ clockLimit) × (tackLength (length (now tack)) ≡ true) × (breaksLength (length (now broken)) ≡ true) ⌝ }
+    requires { ⌜ InOrder (now area) (now name) (clock .0) × (tackLength (length (now tack)) ≡ true) × (breaksLength (length (now broken)) ≡ true) ⌝ }
     ensures { λ r. ⌜ (judgementAnswer r ≡ appliedAnswer enabled (now (name .entry)) (clock .0) (now (tack .entry)) (now (broken .entry)) (decode (now (area .entry)))) × (now (area .exit) ≡ encode (appliedBy enabled (now (name .entry)) (clock .0) (now (tack .entry)) (now (broken .entry)) (decode (now (area .entry))))) ⌝ }
 {
     let no_room = learn(area, name, clock, tack, enabled);
@@ -64,6 +62,55 @@ fn apply(
         verdict: verdict::verdict_for(area, name, tack, clock),
         no_room,
     }
+}
+
+// The steps on the parts of an extension that is known to be well-formed: what is read anew is its activation.
+fn apply_shown(area: &mut [u8], name: &[u8], clock: Minutes, extension: &[u8]) -> Judgement
+    requires { ⌜ InOrder (now area) (now name) (clock .0) × (isNone (parse (now extension)) ≡ false) ⌝ }
+    ensures { λ r. ⌜ (judgementAnswer r ≡ appliedAnswer (isEnabled (parse (now (extension .entry)))) (now (name .entry)) (clock .0) (tackPart (now (extension .entry))) (breaksPart (now (extension .entry))) (decode (now (area .entry)))) × (now (area .exit) ≡ encode (appliedBy (isEnabled (parse (now (extension .entry)))) (now (name .entry)) (clock .0) (tackPart (now (extension .entry))) (breaksPart (now (extension .entry))) (decode (now (area .entry))))) ⌝ }
+{
+    let Reading::WellFormed { activation } = reader::read(extension) else {
+        return Judgement::Refused(Refusal::ExtensionMalformed);
+    };
+    apply(
+        area,
+        name,
+        clock,
+        reader::tack_part(extension),
+        reader::breaks_part(extension),
+        activation == 1,
+    )
+}
+
+// 14 to 23, and the steps where none applies.
+fn judge_at(
+    area: &mut [u8],
+    clock: Minutes,
+    name: &[u8],
+    extension: &[u8],
+    hash: &[u8],
+    handshake_finished: bool,
+    key_is_point: bool,
+    signature_correct: bool,
+    breaks_correct: u8,
+) -> Judgement
+    requires { ⌜ (sound (now area) ≡ true) × Admitted (now area) (now name) (clock .0) ⌝ }
+    ensures answer { λ r. ⌜ judgementAnswer r ≡ calls.answer (calls.judge (connection (clock .0) (now (name .entry)) true (now (extension .entry)) (now (hash .entry)) «handshake_finished» «key_is_point» «signature_correct» «breaks_correct»)) (now (area .entry)) ⌝ }
+    ensures area { λ _. ⌜ now (area .exit) ≡ calls.areaAfter (calls.judge (connection (clock .0) (now (name .entry)) true (now (extension .entry)) (now (hash .entry)) «handshake_finished» «key_is_point» «signature_correct» «breaks_correct»)) (now (area .entry)) ⌝ }
+{
+    if let Checked::Refused(refusal) = connection::check_shown(
+        area,
+        clock,
+        handshake_finished,
+        extension,
+        breaks_correct,
+        key_is_point,
+        hash,
+        signature_correct,
+    ) {
+        return Judgement::Refused(refusal);
+    }
+    apply_shown(area, name, clock, extension)
 }
 
 // A connection with this extension, on a sound area.
@@ -88,28 +135,16 @@ fn judge_shown(
     let Clock::At(now) = Minutes::of_clock(clock) else {
         return Judgement::Refused(Refusal::ClockAboveLimit);
     };
-    if let Checked::Refused(refusal) = connection::check_shown(
+    judge_at(
         area,
         now,
-        handshake_finished,
-        extension,
-        breaks_correct,
-        key_is_point,
-        hash,
-        signature_correct,
-    ) {
-        return Judgement::Refused(refusal);
-    }
-    let Reading::WellFormed { activation } = reader::read(extension) else {
-        return Judgement::Refused(Refusal::ExtensionMalformed);
-    };
-    apply(
-        area,
         name,
-        now,
-        reader::tack_part(extension),
-        reader::breaks_part(extension),
-        activation == 1,
+        extension,
+        hash,
+        handshake_finished,
+        key_is_point,
+        signature_correct,
+        breaks_correct,
     )
 }
 

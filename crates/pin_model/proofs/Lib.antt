@@ -32,3 +32,5 @@ pub mod TableCalls
 pub mod AreaKept
 pub mod LongNames
 pub mod Room
+pub mod Initials
+pub mod ClockBeforeInitial

@@ -1,4 +1,4 @@
--- Judging one connection, by document 01, 'Judging one connection'. Assumes nothing.
+-- Judging one connection, by document 01, 'Judging one connection', and document 02, Q-5. Assumes nothing.
 use mathlib.Core.Bool.{Bool, true, false, cond, not, _&&_, _||_}
 use mathlib.Core.List.{List, [], _∷_, map}
 use mathlib.Core.Option.{Option, none, some}
@@ -116,18 +116,16 @@ abbrev pub raise : List ℕ → Table → Table
 raise tack t =
     table (t .latest) (changed (keyIs (publicKey tack)) (raisedTo (minGeneration tack)) (t .keys)) (t .names)
 
--- '2 (i) if the name's record has this key and activation is 1, end becomes clock + min(43,200, clock - initial); where the
--- clock is before initial the difference counts as 0'
-abbrev pub sinceInitial : ℕ → ℕ → ℕ
-sinceInitial clock initial = cond (ltb clock initial) 0 (clock - initial)
-
+-- '2 (i) if the name's record has this key and activation is 1, end becomes clock + min(43,200, clock - initial)'; the rest of that
+-- sentence went with Q-5. The difference is never cut off: the table is sound, so initial is at most latest, and refusal 14 has
+-- passed, so latest is at most the clock.
 abbrev pub extendedTo : ℕ → NameRecord → NameRecord
 extendedTo clock r =
     record {
       name = r .name;
       key = r .key;
       initial = r .initial;
-      end = some (clock + min thirtyDays (sinceInitial clock (r .initial)));
+      end = some (clock + min thirtyDays (clock - r .initial));
     }
 
 abbrev pub extend : Connection → List ℕ → Table → Table

@@ -3,7 +3,7 @@ use mathlib.Core.Path.{_≡_, sym, _∙_, ap, ap₂}
 use mathlib.Core.Bool.{Bool, true, false, _&&_}
 use mathlib.Core.List.{List}
 use mathlib.Core.Option.{none}
-use Prim.Native.Nat.{ℕ, _+_, min}
+use Prim.Native.Nat.{ℕ, _+_, _-_, _≤_, min}
 use native.Mathlib.Omega.{arith}
 use lib.ListN.{getD, set}
 use Rattle.octets.specs.Octets.{any}
@@ -12,8 +12,9 @@ use Rattle.octets.proofs.Equal.{same-eq}
 use Rattle.tack_extension.specs.Tack.{publicKey}
 use Rattle.pin_model.specs.Slots.{used}
 use Rattle.pin_model.specs.Table.{thirtyDays, NameRecord, Table, nameIs, pinnedTo}
-use Rattle.pin_model.specs.Judge.{sinceInitial, extendedTo}
+use Rattle.pin_model.specs.Judge.{extendedTo}
 use Rattle.pin_model.proofs.Lists.{none-implied, count-implied}
+use Rattle.pin_model.proofs.Initials.{BegunBy}
 use Rattle.pin_records.specs.Holds.{Holds, withName}
 use Rattle.pin_records.specs.Find.{holds, initialAt}
 use Rattle.pin_records.specs.Store.{withEnd}
@@ -42,13 +43,16 @@ module _ (name tack : List ℕ) (clock : ℕ) {b : List ℕ} {t : Table} (h : Ho
     extend-other e =
         extend-none (found-any x (h .nameOnce name) (pinnedTo (publicKey tack)) ∙ ap (holds (pinnedTo (publicKey tack))) (x .there) ∙ e)
 
+    pub found-begun : {initial : ℕ} → BegunBy clock t → initial ≡ initialAt (getD (t .names) n none) → initial ≤ clock
+    found-begun begun since = omega (arith, since ∙ ap initialAt (x .there), begun n (x .what) (x .there))
+
     pub extend-stored : {d : List ℕ} {end initial : ℕ} → pinnedTo (publicKey tack) (x .what) ≡ true → initial ≡ initialAt (getD (t .names) n none)
-        → end ≡ clock + min thirtyDays (sinceInitial clock initial) → Holds d (withName t n (withEnd end (getD (t .names) n none)))
+        → end ≡ clock + min thirtyDays (clock - initial) → Holds d (withName t n (withEnd end (getD (t .names) n none)))
         → Holds d (extendBy true name tack clock t)
     extend-stored {d} {end} {initial} e since until g =
         let r : NameRecord = x .what in
         let own : initial ≡ r .initial = since ∙ ap initialAt (x .there) in
-        let its : end ≡ clock + min thirtyDays (sinceInitial clock (r .initial)) = until ∙ ap (λ (i : ℕ). clock + min thirtyDays (sinceInitial clock i)) own in
+        let its : end ≡ clock + min thirtyDays (clock - r .initial) = until ∙ ap (λ (i : ℕ). clock + min thirtyDays (clock - i)) own in
         with-names
         (ap (set (t .names) n) (ap₂ withEnd its (x .there))
         ∙ sym (changed-set both (extendedTo clock) (t .names) n r (x .there)

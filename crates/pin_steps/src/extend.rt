@@ -11,12 +11,13 @@ ghost use Prim.Native.Nat.{_≤_};
 ghost use lib.ListN.{length};
 ghost use Rattle.pin_model.specs.Table.{clockLimit};
 ghost use Rattle.pin_model.specs.Layout.{decode};
+ghost use Rattle.pin_model.proofs.Initials.{BegunBy};
 ghost use Rattle.pin_records.specs.Holds.{Holds, Stored};
 ghost use Rattle.pin_steps.specs.Steps.{extendBy};
 
-// Where activation is enabled.
+// Where activation is enabled. No record's initial is after the clock, so the difference below cannot wrap.
 pub fn extend_pin(area: &mut [u8], name: &[u8], tack: &[u8], clock: Minutes)
-    requires { ⌜ Stored (now area) × (length (now tack) ≡ 166) × (clock .0 ≤ clockLimit) ⌝ }
+    requires { ⌜ Stored (now area) × (length (now tack) ≡ 166) × (clock .0 ≤ clockLimit) × BegunBy (clock .0) (decode (now area)) ⌝ }
     ensures { λ _. ⌜ Holds (now (area .exit)) (extendBy true (now (name .entry)) (now (tack .entry)) (clock .0) (decode (now (area .entry)))) ⌝ }
 {
     let FoundName::At(n) = find::find_name(area, name) else {

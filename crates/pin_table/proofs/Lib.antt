@@ -1,4 +1,3 @@
 pub mod Rules
 pub mod Hashing
 pub mod Seen
-pub mod PinEnds

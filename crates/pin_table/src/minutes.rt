@@ -1,11 +1,10 @@
 // Minutes since 1970: a kind of number of their own, so that no slot is added to a clock.
 ghost use mathlib.Core.Path.{_≡_};
-ghost use Prim.Native.Nat.{_+_, _≤_, min};
+ghost use Prim.Native.Nat.{_+_, _-_, _≤_, min};
 ghost use lib.ListN.{length};
 ghost use lib.Dec.{leb};
 ghost use Rattle.octets.specs.Octets.{part, number};
 ghost use Rattle.pin_model.specs.Table.{thirtyDays, clockLimit};
-ghost use Rattle.pin_model.specs.Judge.{sinceInitial};
 ghost use Rattle.pin_table.specs.Clocks.{clockOf};
 
 pub struct Minutes(u32);
@@ -46,15 +45,11 @@ impl Minutes {
         Minutes(self.0 + days.0)
     }
 
-    // The end of a pin that is seen at this clock: as long after it as it is since the pin's initial clock, thirty days at
-    // most. Where the clock is before the initial one the difference counts as 0.
+    // The end of a pin that is seen at this clock: as long after it as it is since the pin's initial clock, thirty days at most.
     pub fn pin_end(self, initial: Minutes) -> Minutes
-        requires { ⌜ self .0 ≤ clockLimit ⌝ }
-        ensures { λ r. ⌜ r .0 ≡ self .0 + min thirtyDays (sinceInitial (self .0) (initial .0)) ⌝ }
+        requires { ⌜ (initial .0 ≤ self .0) × (self .0 ≤ clockLimit) ⌝ }
+        ensures { λ r. ⌜ r .0 ≡ self .0 + min thirtyDays (self .0 - initial .0) ⌝ }
     {
-        if self.0 < initial.0 {
-            return self;
-        }
         let since = self.0 - initial.0;
         let days = Minutes::THIRTY_DAYS;
         if days.0 < since {

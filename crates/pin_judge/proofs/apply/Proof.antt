@@ -10,19 +10,22 @@ learn-requires : tie.Need-learn-requires
 learn-requires c κs = search needs
 
 break-keys-requires : tie.Need-break-keys-requires
-break-keys-requires c κs = (holds-stored (c .before .before .before .learn .ensures .1), c .before .before .before .before .before .before .before .before .before .pre .6)
+break-keys-requires c κs = (holds-stored (c .before .before .before .learn .ensures .1), c .before .before .before .before .before .before .before .before .before .pre .2)
 
 store-latest-requires : tie.Need-store-latest-requires
 store-latest-requires c κs = holds-stored (c .before .before .before .break-keys .ensures)
 
 verdict-for-requires : tie.Need-verdict-for-requires
-verdict-for-requires c κs = (holds-stored (c .before .before .before .store-latest .ensures), c .before .before .before .before .before .before .before .before .before .before .before .before .before .before .before .before .before .pre .5)
+verdict-for-requires c κs = (holds-stored (c .before .before .before .store-latest .ensures), c .before .before .before .before .before .before .before .before .before .before .before .before .before .before .before .before .before .pre .1)
 
 same-length : tie.Need-same-length
 same-length c = search needs
 
 returns : tie.Need-returns
-returns c = applied (c .before .before .before .before .before .before .before .before .before .before .before .before .before .before .before .before .before .before .args .enabled) (c .before .before .before .before .before .before .before .before .before .before .before .before .before .before .before .before .before .before .args .name .now) (c .before .before .before .before .before .before .before .before .before .before .before .before .before .before .before .before .before .before .args .clock .0) (c .before .before .before .before .before .before .before .before .before .before .before .before .before .before .before .before .before .before .args .tack .now) (c .before .before .before .before .before .before .before .before .before .before .before .before .before .before .before .before .before .before .args .broken .now) (decode (c .before .before .before .before .before .before .before .before .before .before .before .before .before .before .before .before .before .before .args .area .now)) (c .before .before .before .before .before .before .before .before .before .before .before .before .learn .ensures) (c .before .before .before .before .before .before .before .before .break-keys .ensures) (c .before .before .before .before .store-latest .ensures) _ (c .verdict-for .ensures)
+returns c =
+    let a = c .before .before .before .before .before .before .before .before .before .before .before .before .before .before .before .before .before .before .args in
+    applied (a .enabled) (a .name .now) (a .clock .0) (a .tack .now) (a .broken .now) (decode (a .area .now))
+    (c .before .before .before .before .before .before .before .before .before .before .before .before .learn .ensures) (c .before .before .before .before .before .before .before .before .break-keys .ensures) (c .before .before .before .before .store-latest .ensures) _ (c .verdict-for .ensures)
 
 pub apply-spec : {M : Type 1} → statement M
 apply-spec =

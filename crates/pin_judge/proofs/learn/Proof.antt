@@ -1,34 +1,49 @@
 -- Where no tack is shown nothing changes; else the steps follow each other.
-use mathlib.Core.Path.{_≡_, sym, ap, _∙_}
+use mathlib.Core.Path.{sym, ap, _∙_}
 use mathlib.Core.Bool.{true, false}
 use borrow.Author.Needs.{needs}
-use Rattle.pin_model.specs.Table.{Table}
 use Rattle.pin_model.specs.Layout.{decode}
 use Rattle.pin_model.specs.Judge.{raise}
 use Rattle.pin_steps.specs.Steps.{extendBy}
 use Rattle.pin_records.proofs.HeldSlots.{holds-decode, holds-stored}
 use Rattle.pin_tests.proofs.Shown.{not-shown, shown, tack-length}
 use Rattle.pin_judge.proofs.Learnt.{not-extended}
-use Rattle.pin_judge.proofs.Steps.{nothing-shown, ready-to-create, created}
+use Rattle.pin_judge.proofs.Steps.{raised-begun, nothing-shown, ready-to-create, created}
 use Rattle.pin_judge.proofs.learn.Statement.{statement}
 use Rattle.pin_judge.proofs.learn.Tie as tie
 
 returns : tie.Need-returns
-returns c = nothing-shown (c .before .before .before .before .args .enabled) (c .before .before .before .before .args .name .now) (c .before .before .before .before .args .clock .0) (c .before .before .before .before .args .tack .now) (decode (c .before .before .before .before .args .area .now)) (not-shown (c .before .before .before .before .args .tack .now) (c .if1 .taken)) (c .before .before .before .before .pre .0)
+returns c =
+    let s = c .before .before .before .before in
+    let a = s .args in
+    nothing-shown (a .enabled) (a .name .now) (a .clock .0) (a .tack .now) (decode (a .area .now))
+    (not-shown (a .tack .now) (c .if1 .taken)) (s .pre .0 .admitted .stored)
 
 raise-floor-requires : tie.Need-raise-floor-requires
-raise-floor-requires c κs = (c .before .before .before .before .before .pre .0, tack-length _ (c .before .before .before .before .before .pre .5) (c .before .if1 .left))
+raise-floor-requires c κs =
+    let s = c .before .before .before .before .before in
+    (s .pre .0 .admitted .stored, tack-length _ (s .pre .1) (c .before .if1 .left))
 
 extend-pin-requires : tie.Need-extend-pin-requires
-extend-pin-requires c κs = (holds-stored (c .before .before .before .before .raise-floor .ensures), tack-length _ (c .before .before .before .before .before .before .before .before .before .before .pre .5) (c .before .before .before .before .before .before .if1 .left), c .before .before .before .before .before .before .before .before .before .before .pre .4)
+extend-pin-requires c κs =
+    let s = c .before .before .before .before .before .before .before .before .before .before in
+    let raised = c .before .before .before .before .raise-floor .ensures in (
+      holds-stored raised,
+      tack-length _ (s .pre .1) (c .before .before .before .before .before .before .if1 .left),
+      s .pre .0 .admitted .clockInLimit,
+      raised-begun (s .args .tack .now) _ (holds-decode raised) (s .pre .0),
+    )
 
 create-record-requires : tie.Need-create-record-requires
 create-record-requires c κs =
-    let its = holds-decode (c .before .before .before .extend-pin .ensures) ∙ ap (λ (u : Table). extendBy true (c .before .before .before .before .before .before .before .before .before .before .before .before .before .before .args .name .now) (c .before .before .before .before .before .before .before .before .before .before .before .before .before .before .args .tack .now) (c .before .before .before .before .before .before .before .before .before .before .before .before .before .before .args .clock .0) u) (holds-decode (c .before .before .before .before .before .before .before .before .raise-floor .ensures)) in (
+    let s = c .before .before .before .before .before .before .before .before .before .before .before .before .before .before in
+    let a = s .args in
+    let k = s .pre .0 in
+    let its = holds-decode (c .before .before .before .extend-pin .ensures) ∙ ap (extendBy true (a .name .now) (a .tack .now) (a .clock .0)) (holds-decode (c .before .before .before .before .before .before .before .before .raise-floor .ensures)) in (
       holds-stored (c .before .before .before .extend-pin .ensures),
-      tack-length _ (c .before .before .before .before .before .before .before .before .before .before .before .before .before .before .pre .5) (c .before .before .before .before .before .before .before .before .before .before .if1 .left),
-      c .before .before .before .before .before .before .before .before .before .before .before .before .before .before .pre .2,
-      ready-to-create true (c .before .before .before .before .before .before .before .before .before .before .before .before .before .before .args .name .now) (c .before .before .before .before .before .before .before .before .before .before .before .before .before .before .args .clock .0) (c .before .before .before .before .before .before .before .before .before .before .before .before .before .before .args .tack .now) (decode (c .before .before .before .before .before .before .before .before .before .before .before .before .before .before .args .area .now)) _ its (c .before .before .before .before .before .before .before .before .before .before .before .before .before .before .pre .1) (c .before .before .before .before .before .before .before .before .before .before .before .before .before .before .pre .3) (c .before .before .before .before .before .before .before .before .before .before .before .before .before .before .pre .4),
+      tack-length _ (s .pre .1) (c .before .before .before .before .before .before .before .before .before .before .if1 .left),
+      k .admitted .nameFormed,
+      ready-to-create true (a .name .now) (a .clock .0) (a .tack .now) (decode (a .area .now)) _ its (k .admitted .tableSound) (k .clockInOrder) (k .admitted .clockInLimit),
     )
 
 same-length : tie.Need-same-length
@@ -36,17 +51,22 @@ same-length c = search needs
 
 returns-2 : tie.Need-returns-2
 returns-2 c =
-    let its = holds-decode (c .before .before .before .before .before .before .extend-pin .ensures) ∙ ap (λ (u : Table). extendBy true (c .before .before .before .before .before .before .before .before .before .before .before .before .before .before .before .before .before .args .name .now) (c .before .before .before .before .before .before .before .before .before .before .before .before .before .before .before .before .before .args .tack .now) (c .before .before .before .before .before .before .before .before .before .before .before .before .before .before .before .before .before .args .clock .0) u) (holds-decode (c .before .before .before .before .before .before .before .before .before .before .before .raise-floor .ensures)) in
+    let a = c .before .before .before .before .before .before .before .before .before .before .before .before .before .before .before .before .before .args in
+    let its = holds-decode (c .before .before .before .before .before .before .extend-pin .ensures) ∙ ap (extendBy true (a .name .now) (a .tack .now) (a .clock .0)) (holds-decode (c .before .before .before .before .before .before .before .before .before .before .before .raise-floor .ensures)) in
     rw (c .before .before .before .before .before .before .before .before .if2 .taken)
-    (created true (c .before .before .before .before .before .before .before .before .before .before .before .before .before .before .before .before .before .args .name .now) (c .before .before .before .before .before .before .before .before .before .before .before .before .before .before .before .before .before .args .clock .0) (c .before .before .before .before .before .before .before .before .before .before .before .before .before .before .before .before .before .args .tack .now) (decode (c .before .before .before .before .before .before .before .before .before .before .before .before .before .before .before .before .before .args .area .now)) _ its (shown (c .before .before .before .before .before .before .before .before .before .before .before .before .before .before .before .before .before .args .tack .now) (c .before .before .before .before .before .before .before .before .before .before .before .before .before .if1 .left)) (c .before .before .create-record .ensures))
+    (created true (a .name .now) (a .clock .0) (a .tack .now) (decode (a .area .now)) _ its (shown (a .tack .now) (c .before .before .before .before .before .before .before .before .before .before .before .before .before .if1 .left)) (c .before .before .create-record .ensures))
 
 create-record-requires-2 : tie.Need-create-record-requires-2
 create-record-requires-2 c κs =
-    let its = holds-decode (c .before .before .before .before .raise-floor .ensures) ∙ sym (not-extended (c .before .before .before .before .before .before .before .before .before .before .args .name .now) (c .before .before .before .before .before .before .before .before .before .before .args .tack .now) (c .before .before .before .before .before .before .before .before .before .before .args .clock .0) (raise (c .before .before .before .before .before .before .before .before .before .before .args .tack .now) (decode (c .before .before .before .before .before .before .before .before .before .before .args .area .now)))) in (
-      holds-stored (c .before .before .before .before .raise-floor .ensures),
-      tack-length _ (c .before .before .before .before .before .before .before .before .before .before .pre .5) (c .before .before .before .before .before .before .if1 .left),
-      c .before .before .before .before .before .before .before .before .before .before .pre .2,
-      ready-to-create false (c .before .before .before .before .before .before .before .before .before .before .args .name .now) (c .before .before .before .before .before .before .before .before .before .before .args .clock .0) (c .before .before .before .before .before .before .before .before .before .before .args .tack .now) (decode (c .before .before .before .before .before .before .before .before .before .before .args .area .now)) _ its (c .before .before .before .before .before .before .before .before .before .before .pre .1) (c .before .before .before .before .before .before .before .before .before .before .pre .3) (c .before .before .before .before .before .before .before .before .before .before .pre .4),
+    let s = c .before .before .before .before .before .before .before .before .before .before in
+    let a = s .args in
+    let k = s .pre .0 in
+    let raised = c .before .before .before .before .raise-floor .ensures in
+    let its = holds-decode raised ∙ sym (not-extended (a .name .now) (a .tack .now) (a .clock .0) (raise (a .tack .now) (decode (a .area .now)))) in (
+      holds-stored raised,
+      tack-length _ (s .pre .1) (c .before .before .before .before .before .before .if1 .left),
+      k .admitted .nameFormed,
+      ready-to-create false (a .name .now) (a .clock .0) (a .tack .now) (decode (a .area .now)) _ its (k .admitted .tableSound) (k .clockInOrder) (k .admitted .clockInLimit),
     )
 
 same-length-2 : tie.Need-same-length-2
@@ -54,9 +74,10 @@ same-length-2 c = search needs
 
 returns-3 : tie.Need-returns-3
 returns-3 c =
-    let its = holds-decode (c .before .before .before .before .before .before .before .raise-floor .ensures) ∙ sym (not-extended (c .before .before .before .before .before .before .before .before .before .before .before .before .before .args .name .now) (c .before .before .before .before .before .before .before .before .before .before .before .before .before .args .tack .now) (c .before .before .before .before .before .before .before .before .before .before .before .before .before .args .clock .0) (raise (c .before .before .before .before .before .before .before .before .before .before .before .before .before .args .tack .now) (decode (c .before .before .before .before .before .before .before .before .before .before .before .before .before .args .area .now)))) in
+    let a = c .before .before .before .before .before .before .before .before .before .before .before .before .before .args in
+    let its = holds-decode (c .before .before .before .before .before .before .before .raise-floor .ensures) ∙ sym (not-extended (a .name .now) (a .tack .now) (a .clock .0) (raise (a .tack .now) (decode (a .area .now)))) in
     rw (c .before .before .before .before .if2 .left)
-    (created false (c .before .before .before .before .before .before .before .before .before .before .before .before .before .args .name .now) (c .before .before .before .before .before .before .before .before .before .before .before .before .before .args .clock .0) (c .before .before .before .before .before .before .before .before .before .before .before .before .before .args .tack .now) (decode (c .before .before .before .before .before .before .before .before .before .before .before .before .before .args .area .now)) _ its (shown (c .before .before .before .before .before .before .before .before .before .before .before .before .before .args .tack .now) (c .before .before .before .before .before .before .before .before .before .if1 .left)) (c .before .before .create-record2 .ensures))
+    (created false (a .name .now) (a .clock .0) (a .tack .now) (decode (a .area .now)) _ its (shown (a .tack .now) (c .before .before .before .before .before .before .before .before .before .if1 .left)) (c .before .before .create-record2 .ensures))
 
 pub learn-spec : {M : Type 1} → statement M
 learn-spec =

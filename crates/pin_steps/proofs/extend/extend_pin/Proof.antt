@@ -5,7 +5,7 @@ use borrow.Author.Tests.{not-true, not-false}
 use Rattle.pin_records.proofs.Found.{name-found-at, name-absent}
 use Rattle.pin_steps.proofs.Tacks.{key-length}
 use Rattle.pin_steps.proofs.PinnedTests.{pinned-test}
-use Rattle.pin_steps.proofs.LongerPins.{extend-absent, extend-other, extend-stored}
+use Rattle.pin_steps.proofs.LongerPins.{extend-absent, extend-other, found-begun, extend-stored}
 use Rattle.pin_steps.proofs.extend.extend_pin.Statement.{statement}
 use Rattle.pin_steps.proofs.extend.extend_pin.Tie as tie
 
@@ -58,7 +58,11 @@ initial-requires c κs =
     (s .pre .0, name-found-at _ (s .pre .0 .fits .nameSlots) _ _ (sym (c .before .before .before .before .before .before .before .n .given .1) ∙ f .find-name .ensures) .below)
 
 pin-end-requires : tie.Need-pin-end-requires
-pin-end-requires c κs = search needs
+pin-end-requires c κs =
+    let s = c .before .before .before .before .before .before .before .before .before .before .before .before .before .before .before in
+    let f = c .before .before .before .before .before .before .before .before .before .before in
+    let x = name-found-at _ (s .pre .0 .fits .nameSlots) _ _ (sym (c .before .before .before .before .before .before .before .before .n .given .1) ∙ f .find-name .ensures) in
+    (found-begun (s .args .name .now) (s .args .tack .now) (s .args .clock .0) (s .pre .0) x (s .pre .3) (c .initial .ensures), s .pre .2)
 
 store-end-requires : tie.Need-store-end-requires
 store-end-requires c κs =

@@ -1,0 +1,22 @@
+-- What is known of a call where its first refusals have passed. Cited by private functions alone: a reader of the open contract can
+-- skip this file. Assumes nothing.
+use mathlib.Core.Path.{_≡_}
+use mathlib.Core.Bool.{true}
+use mathlib.Core.List.{List}
+use Prim.Native.Nat.{ℕ, _≤_}
+use Rattle.host_name.specs.Name.{wellFormed}
+use Rattle.pin_model.specs.Table.{clockLimit, soundTable}
+use Rattle.pin_model.specs.Layout.{decode}
+use Rattle.pin_records.specs.Holds.{Stored}
+
+-- 10 to 13: the area, the name, and the clock's limit
+pub record Admitted (area name : List ℕ) (clock : ℕ) : Type 0 where
+  pub stored : Stored area
+  pub tableSound : soundTable (decode area) ≡ true
+  pub nameFormed : wellFormed name ≡ true
+  pub clockInLimit : clock ≤ clockLimit
+
+-- and 14
+pub record InOrder (area name : List ℕ) (clock : ℕ) : Type 0 where
+  pub admitted : Admitted area name clock
+  pub clockInOrder : decode area .latest ≤ clock
