@@ -1,5 +1,6 @@
 //! Whole lists of calls from an empty table.
 
+mod ages;
 mod spellings;
 
 use crate::area::{Area, KEY_SLOTS, LENGTH, NAME_SLOTS};
@@ -8,6 +9,7 @@ use crate::call::{Answer, Call, Connection};
 use crate::choices::{Choices, Mix};
 use crate::random::Random;
 use crate::tally::Tally;
+use ages::Ages;
 use spellings::Spellings;
 use tack::extension::Extension;
 
@@ -17,6 +19,7 @@ pub struct Lists {
     numbers: Tally,
     spellings: Spellings,
     room: Room,
+    ages: Ages,
 }
 
 /// How often a pin found a full table.
@@ -88,6 +91,7 @@ impl Lists {
             let answer = self.call(&mut area.bytes, &call)?;
             if let Call::Judge(connection) = &call {
                 self.room.add(&before, connection, &answer, &area);
+                self.ages.add(&before, connection, &answer)?;
             }
             calls += 1;
         }
@@ -121,12 +125,13 @@ impl Lists {
         Ok(())
     }
 
-    /// The verdict: every number, every spelling and every kind of room came.
+    /// The verdict: every number, every spelling, every kind of room and every age of a pin came.
     pub fn finish(&self) -> Result<(), String> {
         let numbers: Vec<u8> = (0..=7).chain(10..=23).collect();
         self.numbers.report("calls of lists", &numbers)?;
         self.spellings.report()?;
-        self.room.report()
+        self.room.report()?;
+        self.ages.report()
     }
 }
 

@@ -9,7 +9,7 @@
 //! Names come in any spelling, and each program must take one with capitals as it takes the same name in small letters.
 //!
 //! The proved program is `target/bin/replay`, unless `REPLAY_PROGRAM` names another. The comparison ends with status 1 at the
-//! first difference, or if a number, a spelling, a kind of damage, of full table or of night never came.
+//! first difference, or if a number, a spelling, an age of a pin, a kind of damage, of full table or of night never came.
 
 use compare::length::{Length, Progress};
 use compare::nights::Nights;

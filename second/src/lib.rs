@@ -13,9 +13,11 @@
 //! * [`pins`]: the key records and name records behind it.
 //! * [`name`], [`minutes`], [`answer`]: names, clocks, numbers and alerts.
 //!
-//! Every function answers for every input. A refusal leaves the lent memory
-//! byte for byte as it was. A caller's name may have capitals, which count as
-//! small letters everywhere; a table with a capital is damaged.
+//! Every function answers for every input, but for `Minutes::since` and
+//! `Minutes::active_period_end`: they panic at a clock before initial, which
+//! no call on a lent area or a kept table brings about. A refusal leaves the
+//! lent memory byte for byte as it was. A caller's name may have capitals,
+//! which count as small letters everywhere; a table with a capital is damaged.
 
 #![forbid(unsafe_code)]
 

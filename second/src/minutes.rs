@@ -38,9 +38,12 @@ impl Minutes {
         Minutes(self.0.saturating_add(span.0))
     }
 
-    /// The span since `earlier`; 0 if that lies ahead.
-    pub fn since(self, earlier: Minutes) -> Minutes {
-        Minutes(self.0.saturating_sub(earlier.0))
+    /// The span from `initial` to this clock. It is never negative: a sound
+    /// table has initial at most latest, and refusal 14 has passed. A clock
+    /// before initial is a fault of the program and panics.
+    pub fn since(self, initial: Minutes) -> Minutes {
+        let span = self.0.checked_sub(initial.0);
+        Minutes(span.expect("a sound table has initial at most latest, and refusal 14 has passed"))
     }
 
     /// The end of the active period of a pin made at `initial` and seen now.

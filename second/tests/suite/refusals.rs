@@ -94,6 +94,14 @@ fn area_of_another_length() {
     }
 }
 
+/// The initial of the pin is latest; its tack is shown with activation 1.
+#[test]
+fn a_clock_before_initial_is_before_latest() {
+    let area = pinned();
+    let call = Call::at(999, "a.b").with(showing(K));
+    call.is_refused(&area, 14, 0);
+}
+
 #[test]
 fn each_break_signature_must_be_correct() {
     let keys: Vec<[u8; 64]> = (0..8).map(key).collect();

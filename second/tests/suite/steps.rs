@@ -1,6 +1,7 @@
 //! The steps of judging, apart from room.
 
 use second::is_sound;
+use second::minutes::Minutes;
 
 use crate::calls::*;
 
@@ -59,6 +60,13 @@ fn activation_in_the_minute_of_creation_is_no_active_pin() {
     assert_eq!(name_slot(&area, 0)[3], 1);
     assert_eq!(name_slot(&area, 0)[8..12], 1000_u32.to_be_bytes());
     assert!(is_sound(&area));
+}
+
+#[test]
+#[should_panic(expected = "a sound table has initial at most latest")]
+fn no_span_to_a_clock_before_initial() {
+    let minutes = |value: u32| Minutes::from_field(value.to_be_bytes());
+    minutes(999).since(minutes(1000));
 }
 
 #[test]
