@@ -61,10 +61,15 @@ impl Room {
             self.old_key_stays,
             self.old_key_goes,
         ];
-        match all.contains(&0) {
-            true => Err("a kind of room never came".to_string()),
-            false => Ok(()),
-        }
+        all_came("a kind of room", &all)
+    }
+}
+
+/// An error where one of the counts is 0.
+fn all_came(what: &str, counts: &[u64]) -> Result<(), String> {
+    match counts.contains(&0) {
+        true => Err(format!("{what} never came")),
+        false => Ok(()),
     }
 }
 

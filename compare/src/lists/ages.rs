@@ -1,5 +1,6 @@
 //! How old a pin was when a call extended it.
 
+use super::all_came;
 use crate::area::{Area, LONGEST};
 use crate::call::{Answer, Connection};
 use std::cmp::Ordering;
@@ -60,10 +61,7 @@ impl Ages {
             self.longer,
             self.before_initial,
         ];
-        match all.contains(&0) {
-            true => Err("an age of a pin never came".to_string()),
-            false => Ok(()),
-        }
+        all_came("an age of a pin", &all)
     }
 }
 

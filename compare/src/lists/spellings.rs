@@ -1,5 +1,6 @@
 //! How the names of the calls were spelled.
 
+use super::all_came;
 use crate::call::Call;
 use crate::spelling::{self, Spelling};
 use crate::tally::Tally;
@@ -54,9 +55,6 @@ impl Spellings {
         println!(
             "spellings: {one} with one capital, {some} with some, {all} with all; {mixed} times a name in several in one list"
         );
-        match [one, some, all, mixed].contains(&0) {
-            true => Err("a spelling never came".to_string()),
-            false => Ok(()),
-        }
+        all_came("a spelling", &[one, some, all, mixed])
     }
 }

@@ -15,7 +15,7 @@ use Rattle.tack_extension.specs.Answers.{readingOf}
 use Rattle.tack_extension.specs.declared.reader.Reading.the-variants.{WellFormed, Malformed}
 use Rattle.tack_extension.proofs.Steps.{clash, byOption}
 use Rattle.tack_extension.proofs.RoundTrip.{reads-good}
-use Rattle.pin_model.specs.Table.{clockLimit, Table}
+use Rattle.pin_model.specs.Table.{clockLimit}
 use Rattle.pin_model.specs.Layout.{encode, decode}
 use Rattle.pin_model.specs.Sound.{sound}
 use Rattle.pin_model.specs.Judge.{Connection, connection, partsOf, tackShown, breaksShown, isNone, isEnabled, connectionTests}
@@ -57,16 +57,11 @@ sized s a e =
     })
     (λ f. let k : Malformed ≡ WellFormed a = sym (ap readingOf f) ∙ e in clash (cc))
 
--- the steps by the parts that the reader gives are the steps by the extension
-pub applied-parts : (s : List ℕ) (a : ℕ) → readingOf (parse s) ≡ WellFormed a → (name : List ℕ) (clock : ℕ) (tack breaks : List ℕ) (t : Table)
-    → tack ≡ tackPart s → breaks ≡ breaksPart s
-    → (appliedAnswer (eqb a 1) name clock tack breaks t ≡ appliedAnswer (isEnabled (parse s)) name clock (tackPart s) (breaksPart s) t)
-    × (appliedBy (eqb a 1) name clock tack breaks t ≡ appliedBy (isEnabled (parse s)) name clock (tackPart s) (breaksPart s) t)
-applied-parts s a e name clock tack breaks t et eb =
-    let on : eqb a 1 ≡ isEnabled (parse s) = sym (sized s a e .on) in (
-      ap (λ (o : Bool). appliedAnswer o name clock tack breaks t) on ∙ ap₂ (λ (x y : List ℕ). appliedAnswer (isEnabled (parse s)) name clock x y t) et eb,
-      ap (λ (o : Bool). appliedBy o name clock tack breaks t) on ∙ ap₂ (λ (x y : List ℕ). appliedBy (isEnabled (parse s)) name clock x y t) et eb,
-    )
+-- what goes by the parts that the reader gives goes by the extension
+pub by-reading : {X : Type 0} (f : Bool → List ℕ → List ℕ → X) (s : List ℕ) (a : ℕ) {tack breaks : List ℕ} → readingOf (parse s) ≡ WellFormed a
+    → tack ≡ tackPart s → breaks ≡ breaksPart s → f (eqb a 1) tack breaks ≡ f (isEnabled (parse s)) (tackPart s) (breaksPart s)
+by-reading f s a {tack} {breaks} e et eb =
+    ap (λ (on : Bool). f on tack breaks) (sym (sized s a e .on)) ∙ ap₂ (f (isEnabled (parse s))) et eb
 
 module _ (clock : ℕ) (name bytes hash : List ℕ) (finished point correct : Bool) (bits : ℕ) (b : List ℕ) where
   abbrev it : Connection

@@ -1,10 +1,13 @@
 -- The parts that the reader gives are the extension's.
-use mathlib.Core.Path.{sym, ap, _∙_}
-use mathlib.Core.Bool.{true≢false}
+use mathlib.Core.Path.{sym, _∙_}
+use mathlib.Core.Bool.{Bool, true≢false}
+use mathlib.Core.List.{List}
+use Prim.Native.Nat.{ℕ}
 use borrow.Author.Needs.{needs}
 use Rattle.pin_model.specs.Layout.{encode, decode}
 use Rattle.pin_tests.proofs.Shown.{malformed}
-use Rattle.pin_judge.proofs.Passing.{sized, applied-parts}
+use Rattle.pin_judge.specs.Applied.{appliedBy, appliedAnswer}
+use Rattle.pin_judge.proofs.Passing.{sized, by-reading}
 use Rattle.pin_judge.proofs.apply_shown.Statement.{statement}
 use Rattle.pin_judge.proofs.apply_shown.Tie as tie
 
@@ -41,9 +44,12 @@ returns-2 : tie.Need-returns-2
 returns-2 c =
     let a = c .before .before .before .before .before .before .before .before .before .before .before .before .before .args in
     let reading = sym (c .before .before .before .before .before .before .before .before .before .read .ensures) ∙ c .before .before .before .before .before .before .before .activation .given .1 in
-    let same = applied-parts (a .extension .now) _ reading (a .name .now) (a .clock .0) _ _ (decode (a .area .now)) (c .before .before .before .before .tack-part .ensures) (c .before .before .before .breaks-part .ensures) in
-    let w = c .before .before .apply .ensures in
-    (w .0 ∙ same .0, w .1 ∙ ap encode (same .1))
+    let tack = c .before .before .before .before .tack-part .ensures in
+    let breaks = c .before .before .before .breaks-part .ensures in
+    let w = c .before .before .apply .ensures in (
+      w .0 ∙ by-reading (λ (on : Bool) (x y : List ℕ). appliedAnswer on (a .name .now) (a .clock .0) x y (decode (a .area .now))) (a .extension .now) _ reading tack breaks,
+      w .1 ∙ by-reading (λ (on : Bool) (x y : List ℕ). encode (appliedBy on (a .name .now) (a .clock .0) x y (decode (a .area .now)))) (a .extension .now) _ reading tack breaks,
+    )
 
 pub apply-shown-spec : {M : Type 1} → statement M
 apply-shown-spec =
