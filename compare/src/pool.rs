@@ -2,8 +2,8 @@
 
 use crate::area::Key;
 
-pub const NAME_FAMILIES: usize = 6;
-pub const KEY_FAMILIES: usize = 4;
+pub const NAME_FAMILIES: usize = 7;
+pub const KEY_FAMILIES: usize = 5;
 
 /// The bytes next to the letters, capital and small: no name has them, and folding leaves them as they are.
 pub const BESIDE_LETTERS: &[u8] = b"@[`{";
@@ -21,9 +21,17 @@ pub fn name(family: usize, number: usize) -> Vec<u8> {
         // 253 bytes, that end or begin alike.
         3 => format!("{digits}{}", long()),
         4 => format!("{}{digits}", long()),
-        _ => return self::name(number % 5, number),
+        5 => return differing_anywhere(number),
+        _ => return self::name(number % 6, number),
     };
     name.into_bytes()
+}
+
+/// One byte differs, at any place.
+fn differing_anywhere(number: usize) -> Vec<u8> {
+    let mut name = [b'a'; 60];
+    name[number % 60] = b'b' + (number / 60) as u8;
+    name.to_vec()
 }
 
 fn long() -> String {
@@ -39,10 +47,12 @@ pub fn key(family: usize, number: usize) -> Key {
         0 => key.fill(byte),
         1 => key[63] = byte,
         2 => key[0] = byte,
-        _ => {
+        3 => {
             key.fill(0xff);
             key[31] = byte;
         }
+        // One byte differs, at any place.
+        _ => key[number % 64] = 1 + byte / 64,
     }
     key
 }

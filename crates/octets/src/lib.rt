@@ -81,17 +81,23 @@ pub fn put_part(s: &mut [u8], at: usize, p: &[u8]) -> usize
     at + p.len()
 }
 
-// Whether the bytes from `at` are those of p.
+// Whether the bytes from `at` are those of p. Keys begin alike and names end alike: it goes inwards from both ends, the last byte
+// first, and stops at the first that differs.
 pub fn same_at(s: &[u8], at: usize, p: &[u8]) -> bool
     requires { ⌜ at + length (now p) ≤ length (now s) ⌝ }
     ensures { λ r. ⌜ r ≡ same (part (now (s .entry)) at (length (now (p .entry)))) (now (p .entry)) ⌝ }
 {
-    let mut i = 0;
-    while i < p.len() {
-        if s[at + i] != p[i] {
+    let mut low = 0;
+    let mut high = p.len();
+    while low < high {
+        high -= 1;
+        if s[at + high] != p[high] {
             return false;
         }
-        i += 1;
+        if s[at + low] != p[low] {
+            return false;
+        }
+        low += 1;
     }
     true
 }
