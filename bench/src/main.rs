@@ -3,16 +3,22 @@
 //! * `bench [REPEATS]`: the soundness check and 20,000 calls of the library, 9 repeats unless said.
 //! * `bench nights [REPEATS [CALLS]]`: nights of recorded calls replayed, 5 repeats of 1,000,000 calls unless said, and of a
 //!   tenth of them on a full table.
+//! * `bench versions FOLDER [REPEATS]`: 20,000 recorded calls on a full table by the `replay` and the `lent_replay` of an earlier
+//!   version, which stand in the folder, and by those of this one, 9 repeats unless said. `bench/versions` builds and runs it.
 
+mod made;
 mod night;
+mod program;
 mod replays;
 mod soundness;
 mod tables;
 mod timing;
+mod versions;
 
+use std::path::Path;
 use std::process::ExitCode;
 
-const USAGE: &str = "bench [REPEATS] | nights [REPEATS [CALLS]]";
+const USAGE: &str = "bench [REPEATS] | nights [REPEATS [CALLS]] | versions FOLDER [REPEATS]";
 
 fn number(argument: &str) -> Result<usize, String> {
     match argument.replace('_', "").parse() {
@@ -27,6 +33,8 @@ fn run(arguments: &[&str]) -> Result<(), String> {
         ["nights"] => replays::report(5, 1_000_000),
         ["nights", repeats] => replays::report(number(repeats)?, 1_000_000),
         ["nights", repeats, calls] => replays::report(number(repeats)?, number(calls)?),
+        ["versions", before] => versions::report(Path::new(before), 9),
+        ["versions", before, repeats] => versions::report(Path::new(before), number(repeats)?),
         [repeats] => library(number(repeats)?),
         _ => Err(USAGE.to_string()),
     }

@@ -1,74 +1,37 @@
 //! Nights of recorded calls, replayed by the proved program, by the second one, and by the `judge` of each on lent bytes.
 
-mod child;
-mod folder;
-mod lent;
-
+use crate::made::{Folder, Night};
+use crate::program::{lent_replay, Program, Run};
 use crate::timing::Timing;
-use compare::call::Connection;
 use compare::make;
 use compare::nights::program;
-use folder::Folder;
-use std::fs::{self, File};
-use std::io::{self, BufWriter, Write};
-use std::path::{Path, PathBuf};
-use std::time::{Duration, Instant};
+use std::fs;
+use std::path::Path;
 
 const SEED: u64 = 1;
 
-/// Who replays a night from one file into another.
-enum Replayer {
-    Program(PathBuf),
-    LentBytes(lent::Judge),
-}
-
-/// How long one replay took, and the peak of resident memory in kilobytes where it was watched.
-struct Run {
-    time: Duration,
-    peak: Option<u64>,
-}
-
-impl Replayer {
-    fn replay(&self, night: &Path, report: &Path) -> Result<Run, String> {
-        match self {
-            Replayer::Program(path) => child::replay(path, night, report),
-            Replayer::LentBytes(judge) => on_lent_bytes(night, report, *judge)
-                .map_err(|error| format!("the night cannot be replayed: {error}")),
-        }
-    }
-}
-
-fn on_lent_bytes(night: &Path, report: &Path, judge: lent::Judge) -> io::Result<Run> {
-    let began = Instant::now();
-    lent::replay(night, report, judge)?;
-    Ok(Run {
-        time: began.elapsed(),
-        peak: None,
-    })
-}
-
-/// A replayer with the times of its calls in microseconds.
+/// A program with the times of its calls in microseconds.
 struct Line {
     name: &'static str,
     does: &'static str,
-    replayer: Replayer,
+    program: Program,
     times: Vec<f64>,
     peak: Option<u64>,
 }
 
 impl Line {
-    fn new(name: &'static str, does: &'static str, replayer: Replayer) -> Line {
+    fn new(name: &'static str, does: &'static str, program: Program) -> Line {
         Line {
             name,
             does,
-            replayer,
+            program,
             times: vec![],
             peak: None,
         }
     }
 
     fn run(&mut self, night: &Night, report: &Path) -> Result<(), String> {
-        let Run { time, peak } = self.replayer.replay(&night.path, report)?;
+        let Run { time, peak } = self.program.replay(&night.path, report)?;
         let microseconds = time.as_secs_f64() * 1e6;
         self.times.push(microseconds / night.calls as f64);
         self.peak = self.peak.max(peak);
@@ -89,52 +52,29 @@ impl Line {
 }
 
 fn lines() -> Result<[Line; 4], String> {
-    let proved = Replayer::Program(program::proved()?);
-    let second = Replayer::Program(program::second()?);
+    let lent = lent_replay()?;
     Ok([
         Line::new(
             "replay",
             "the proved program; it works on the 39,432 bytes of a table, proved to stay sound, and checks them not once",
-            proved,
+            Program::at(program::proved()?),
         ),
         Line::new(
             "second_replay",
             "the second program; it keeps its table parsed from call to call and checks nothing again",
-            second,
+            Program::at(program::second()?),
         ),
         Line::new(
             "proved on lent bytes",
-            "the proved library's `judge`, in this process, on 39,432 bytes that it checks in every call",
-            Replayer::LentBytes(lent::by_proved),
+            "the proved library's `judge` on 39,432 bytes that it checks in every call",
+            Program::with(&lent, "judge"),
         ),
         Line::new(
             "second on lent bytes",
-            "the second program's `judge`, in this process, on 39,432 bytes that it parses and writes in every call",
-            Replayer::LentBytes(lent::by_second),
+            "the second program's `judge` on 39,432 bytes that it parses and writes in every call",
+            Program::with(&lent, "second-judge"),
         ),
     ])
-}
-
-/// A made night.
-struct Night {
-    calls: usize,
-    path: PathBuf,
-}
-
-impl Night {
-    fn make(path: PathBuf, night: impl Iterator<Item = Connection>) -> Result<Night, String> {
-        let mut calls = 0;
-        let counted = night.inspect(|_| calls += 1);
-        let written = File::create(&path).and_then(|file| {
-            let mut out = BufWriter::new(file);
-            make::write(counted, &mut out)?;
-            out.flush()
-        });
-        match written {
-            Ok(()) => Ok(Night { calls, path }),
-            Err(error) => Err(format!("{} cannot be made: {error}", path.display())),
-        }
-    }
 }
 
 pub fn report(repeats: usize, calls: usize) -> Result<(), String> {
@@ -143,10 +83,9 @@ pub fn report(repeats: usize, calls: usize) -> Result<(), String> {
     }
     println!("each reads the night from a file and writes its report into another");
     let folder = Folder::new()?;
-    let few = Night::make(folder.file("few.bin"), make::few(calls as u64, SEED))?;
+    let few = folder.night("few.bin", make::few(calls as u64, SEED))?;
     measure("a night of four names", repeats, &few, &folder)?;
-    let full = make::full(calls as u64 / 10, SEED);
-    let full = Night::make(folder.file("full.bin"), full)?;
+    let full = folder.night("full.bin", make::full(calls as u64 / 10, SEED))?;
     measure("a night on a full table", repeats, &full, &folder)
 }
 

@@ -6,7 +6,7 @@ mod random;
 pub mod stories;
 
 pub use few::few;
-pub use full::full;
+pub use full::{confirming, full, FILLING};
 pub use random::random;
 
 use crate::area::Key;
