@@ -33,6 +33,7 @@ fn run(arguments: &[&str]) -> Result<(), String> {
         ["nights"] => replays::report(5, 1_000_000),
         ["nights", repeats] => replays::report(number(repeats)?, 1_000_000),
         ["nights", repeats, calls] => replays::report(number(repeats)?, number(calls)?),
+        ["versions"] => Err(USAGE.to_string()),
         ["versions", before] => versions::report(Path::new(before), 9),
         ["versions", before, repeats] => versions::report(Path::new(before), number(repeats)?),
         [repeats] => library(number(repeats)?),

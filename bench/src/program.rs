@@ -62,13 +62,14 @@ impl Program {
             .output()
             .map_err(|error| format!("valgrind cannot be run: {error}"))?;
         let said = String::from_utf8_lossy(&output.stderr);
-        let collected = said
-            .lines()
-            .find_map(|line| line.split_once("Collected :")?.1.trim().parse().ok());
-        match collected {
-            Some(instructions) if output.status.success() => Ok(instructions),
-            _ => Err(format!("callgrind does not say what it collected: {said}")),
+        if !output.status.success() {
+            let (name, status) = (self.path.display(), output.status);
+            return Err(format!("{name} under valgrind ended with {status}: {said}"));
         }
+        let count = |line: &str| line.split_once("Collected :")?.1.trim().parse().ok();
+        said.lines()
+            .find_map(count)
+            .ok_or_else(|| format!("callgrind does not say what it collected: {said}"))
     }
 }
 

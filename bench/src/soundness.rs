@@ -2,24 +2,20 @@
 
 use crate::tables::{self, Shape, FULL};
 use crate::timing::{measure, Timing};
+use bench::bare_read;
 use std::hint::black_box;
 use tack::raw;
 
 const CALLS: usize = 200;
 
-/// Every byte read once, as fast as the machine can.
-fn sum(table: &[u8]) -> u8 {
-    table.iter().fold(0, |sum, &byte| sum.wrapping_add(byte))
-}
-
 /// The bare read, the proved check and the second program's. The proved one is timed by the inspection of a name that is not
 /// there, which does little else.
 pub fn timings(table: &[u8], name_length: usize, repeats: usize) -> [Timing; 3] {
     let absent = tables::name(999, name_length);
-    let expected = sum(table);
+    let expected = bare_read(table);
     let mut read = || {
         for _ in 0..CALLS {
-            assert_eq!(sum(black_box(table)), expected);
+            assert_eq!(bare_read(black_box(table)), expected);
         }
     };
     let mut proved = || {

@@ -38,7 +38,8 @@ impl Timing {
 
 impl fmt::Display for Timing {
     fn fmt(&self, f: &mut fmt::Formatter<'_>) -> fmt::Result {
-        let (median, least, most) = (self.median(), self.least(), self.most());
+        let rounded = |time: f64| (100.0 * time).round() / 100.0 + 0.0;
+        let [median, least, most] = [self.median(), self.least(), self.most()].map(rounded);
         f.pad(&format!("{median:.2} ({least:.2} to {most:.2})"))
     }
 }

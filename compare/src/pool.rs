@@ -21,16 +21,18 @@ pub fn name(family: usize, number: usize) -> Vec<u8> {
         // 253 bytes, that end or begin alike.
         3 => format!("{digits}{}", long()),
         4 => format!("{}{digits}", long()),
-        5 => return differing_anywhere(number),
+        5 => return one_unlike(number),
         _ => return self::name(number % 6, number),
     };
     name.into_bytes()
 }
 
-/// One byte differs, at any place.
-fn differing_anywhere(number: usize) -> Vec<u8> {
+/// Each differs from the first in one byte, at any place.
+fn one_unlike(number: usize) -> Vec<u8> {
     let mut name = [b'a'; 60];
-    name[number % 60] = b'b' + (number / 60) as u8;
+    if let Some(index) = number.checked_sub(1) {
+        name[index % 60] = b'b' + (index / 60) as u8;
+    }
     name.to_vec()
 }
 
@@ -39,7 +41,7 @@ fn long() -> String {
     (0..250).map(letter).collect()
 }
 
-/// A key; other numbers below 256 give other keys of the family. Number 0 is all zero in the first three, as a free slot is.
+/// A key; other numbers below 256 give other keys of the family. Number 0 is all zero but in one, as a free slot is.
 pub fn key(family: usize, number: usize) -> Key {
     let byte = number as u8;
     let mut key = [0; 64];
@@ -51,8 +53,12 @@ pub fn key(family: usize, number: usize) -> Key {
             key.fill(0xff);
             key[31] = byte;
         }
-        // One byte differs, at any place.
-        _ => key[number % 64] = 1 + byte / 64,
+        // Each differs from the first in one byte, at any place.
+        _ => {
+            if let Some(index) = number.checked_sub(1) {
+                key[index % 64] = 1 + (index / 64) as u8;
+            }
+        }
     }
     key
 }

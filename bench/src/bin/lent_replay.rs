@@ -4,10 +4,11 @@
 //! * `lent_replay judge`: the proved library's `judge`, which checks the 39,432 bytes in every call.
 //! * `lent_replay second-judge`: the second program's, which parses and writes them in every call.
 //! * `lent_replay PART`: behind the calls that fill the table, in place of every call, a part alone; the report has the total only.
-//!   `check` and `second-check` are the soundness checks, `read` is the bare read of the table. The check up to one of its rules
-//!   is that of a table which breaks this rule in the last slot: `head`, `keys-shaped`, `keys-distinct`, `names-shaped`,
-//!   `names-distinct`, `names-keyed`; behind them only `keys named` is left.
+//!   `check` and `second-check` are the soundness checks, `read` is the bare read of the table, `nothing` is nothing. The check up
+//!   to one of its rules is that of a table which breaks this rule in the last slot: `head`, `keys-shaped`, `keys-distinct`,
+//!   `names-shaped`, `names-distinct`, `names-keyed`; behind them only 'each key has a name' is left.
 
+use bench::bare_read;
 use compare::area::{Area, KEY_SLOTS, NAME_SLOTS};
 use compare::make::FILLING;
 use second::Connection;
@@ -107,9 +108,8 @@ fn second_check(table: &[u8]) {
     assert!(second::is_sound(table));
 }
 
-/// Every byte once, as fast as the machine can.
 fn read(table: &[u8]) {
-    black_box(table.iter().fold(0u8, |sum, &byte| sum.wrapping_add(byte)));
+    black_box(bare_read(table));
 }
 
 fn nothing(_: &[u8]) {}

@@ -19,8 +19,8 @@ pub struct Bar {
 }
 
 impl Bar {
-    pub fn of(name: &str, whole: &Cost, parts: &[(&'static str, &Cost)]) -> Bar {
-        let part = |&(name, cost): &(&'static str, &Cost)| (name, cost.instructions());
+    pub fn of(name: &str, whole: &Cost, parts: &[(&'static str, Cost)]) -> Bar {
+        let part = |(name, cost): &(&'static str, Cost)| (*name, cost.instructions());
         Bar {
             name: name.to_string(),
             whole: whole.instructions(),
@@ -30,7 +30,7 @@ impl Bar {
 }
 
 /// A drawing of groups of bars, each group to its own scale.
-pub fn draw(title: &str, groups: &[[&Bar; 3]]) -> String {
+pub fn draw(title: &str, groups: &[[Bar; 3]]) -> String {
     let rows = groups.iter().map(|bars| bars.len() + 1).sum::<usize>();
     let height = HEIGHT * (rows as f64 + 3.0);
     let mut svg = format!(
@@ -66,7 +66,7 @@ fn block(svg: &mut String, x: f64, y: f64, width: f64, colour: &str) {
 }
 
 /// The parts' names, which the bar with the most parts has.
-fn legend(svg: &mut String, groups: &[[&Bar; 3]]) {
+fn legend(svg: &mut String, groups: &[[Bar; 3]]) {
     let bars = groups.iter().flatten();
     let most = bars.max_by_key(|bar| bar.parts.len());
     let names = most.iter().flat_map(|bar| &bar.parts).map(|part| part.0);

@@ -7,13 +7,14 @@ use std::fmt;
 use std::fs;
 use std::path::{Path, PathBuf};
 
-/// A program on a night.
+/// A program on a night, and what one of its calls costs, once it is measured.
 pub struct Line<'a> {
     pub name: String,
     program: Program,
     night: &'a Night,
     /// Whether its report must be that of the others on this night.
     judges: bool,
+    pub cost: Cost,
 }
 
 impl<'a> Line<'a> {
@@ -23,6 +24,7 @@ impl<'a> Line<'a> {
             program,
             night,
             judges: true,
+            cost: Cost::default(),
         }
     }
 
@@ -32,35 +34,30 @@ impl<'a> Line<'a> {
             ..Line::judging(name, program, night)
         }
     }
-
-    pub fn named(self, name: &str) -> Line<'a> {
-        Line {
-            name: name.to_string(),
-            ..self
-        }
-    }
 }
 
-/// What one call costs: its microseconds in each repeat, and its instructions.
+/// The microseconds of a call in each repeat, and its instructions.
+#[derive(Default)]
 pub struct Cost {
-    times: Vec<f64>,
+    microseconds: Vec<f64>,
     instructions: f64,
 }
 
 impl Cost {
     /// Repeat by repeat.
     pub fn less(&self, other: &Cost) -> Cost {
-        let times = self.times.iter().zip(&other.times);
+        let both = self.microseconds.iter().zip(&other.microseconds);
         Cost {
-            times: times.map(|(time, other)| time - other).collect(),
+            microseconds: both.map(|(this, other)| this - other).collect(),
             instructions: self.instructions - other.instructions,
         }
     }
 
-    pub fn times(&self, count: f64) -> Cost {
+    pub fn scaled(&self, factor: f64) -> Cost {
+        let scaled = self.microseconds.iter().map(|time| time * factor);
         Cost {
-            times: self.times.iter().map(|time| time * count).collect(),
-            instructions: self.instructions * count,
+            microseconds: scaled.collect(),
+            instructions: self.instructions * factor,
         }
     }
 
@@ -69,14 +66,19 @@ impl Cost {
     }
 
     fn timing(&self) -> Timing {
-        Timing::of(self.times.clone())
+        Timing::of(self.microseconds.clone())
     }
 
-    /// A line with its shares of another cost.
+    pub fn print(&self, what: &str) {
+        println!("{what:<44} {self}");
+    }
+
+    /// With its shares of another cost, by the medians.
     pub fn print_share(&self, what: &str, of: &Cost) {
-        let time = 100.0 * self.timing().median() / of.timing().median();
-        let instructions = 100.0 * self.instructions / of.instructions;
-        println!("{what:<44} {self} {time:>4.0} % {instructions:>4.0} %");
+        let share = |part: f64, whole: f64| (100.0 * part / whole).round() + 0.0;
+        let time = share(self.timing().median(), of.timing().median());
+        let instructions = share(self.instructions, of.instructions);
+        println!("{what:<44} {self} {time:>4} % {instructions:>4} %");
     }
 }
 
@@ -86,58 +88,32 @@ impl fmt::Display for Cost {
     }
 }
 
-/// The costs of each section's lines. The lines are run in turn and again, so that a slow moment of the machine meets all; then
-/// their instructions are counted. What the calls cost that fill the table is taken off.
+/// Counts the instructions of all lines, and then runs them in turn and again, so that a slow moment of the machine meets all.
+/// What the calls cost that fill the table is taken off.
 pub fn measure(
-    sections: &[&[Line]],
+    mut lines: Vec<&mut Line>,
     filling: &Night,
     repeats: usize,
     report: &Path,
-) -> Result<Vec<Vec<Cost>>, String> {
-    let mut times: Vec<Vec<Vec<f64>>> = sections
-        .iter()
-        .map(|lines| vec![vec![]; lines.len()])
-        .collect();
-    let mut reports = Reports::in_file(report);
+) -> Result<(), String> {
+    let count = lines.len();
+    for (index, line) in lines.iter_mut().enumerate() {
+        eprintln!("instructions: {} of {count}", index + 1);
+        line.cost.instructions = instructions(line, filling)?;
+    }
+    let mut reports = Reports::default();
     for repeat in 1..=repeats {
-        eprintln!("repeat {repeat} of {repeats}");
-        for (lines, times) in sections.iter().zip(&mut times) {
-            for (line, times) in lines.iter().zip(times) {
-                times.push(microseconds(line, filling, &mut reports)?);
-            }
+        eprintln!("times: repeat {repeat} of {repeats}");
+        for line in &mut lines {
+            let microseconds = microseconds(line, filling, report, &mut reports)?;
+            line.cost.microseconds.push(microseconds);
         }
     }
-    let mut costs = vec![];
-    for (section, times) in sections.iter().zip(times) {
-        eprintln!(
-            "instructions: section {} of {}",
-            costs.len() + 1,
-            sections.len()
-        );
-        let lines = section.iter().zip(times);
-        let cost = |(line, times)| {
-            Ok(Cost {
-                times,
-                instructions: instructions(line, filling)?,
-            })
-        };
-        costs.push(lines.map(cost).collect::<Result<_, String>>()?);
-    }
-    Ok(costs)
+    Ok(())
 }
 
 fn calls(line: &Line, filling: &Night) -> f64 {
     (line.night.calls - filling.calls) as f64
-}
-
-fn microseconds(line: &Line, filling: &Night, reports: &mut Reports) -> Result<f64, String> {
-    let whole = line.program.replay(&line.night.path, &reports.file)?.time;
-    if line.judges {
-        reports.compare(line)?;
-    }
-    let before = line.program.replay(&filling.path, &reports.file)?.time;
-    let seconds = whole.as_secs_f64() - before.as_secs_f64();
-    Ok(seconds * 1e6 / calls(line, filling))
 }
 
 fn instructions(line: &Line, filling: &Night) -> Result<f64, String> {
@@ -146,31 +122,50 @@ fn instructions(line: &Line, filling: &Night) -> Result<f64, String> {
     Ok((whole as f64 - before as f64) / calls(line, filling))
 }
 
-/// The first report on each night, and the file into which each program writes its own.
-struct Reports {
-    file: PathBuf,
-    expected: Vec<(PathBuf, Vec<u8>)>,
+fn microseconds(
+    line: &Line,
+    filling: &Night,
+    report: &Path,
+    reports: &mut Reports,
+) -> Result<f64, String> {
+    let whole = line.program.replay(&line.night.path, report)?.time;
+    if line.judges {
+        reports.compare(line, report)?;
+    }
+    let before = line.program.replay(&filling.path, report)?.time;
+    let seconds = whole.as_secs_f64() - before.as_secs_f64();
+    Ok(seconds * 1e6 / calls(line, filling))
+}
+
+/// The first report on each night, and whose it was.
+#[derive(Default)]
+struct Reports(Vec<FirstReport>);
+
+struct FirstReport {
+    night: PathBuf,
+    by: String,
+    bytes: Vec<u8>,
 }
 
 impl Reports {
-    fn in_file(file: &Path) -> Reports {
-        Reports {
-            file: file.to_path_buf(),
-            expected: vec![],
-        }
-    }
-
-    fn compare(&mut self, line: &Line) -> Result<(), String> {
-        let report = fs::read(&self.file)
-            .map_err(|error| format!("{} cannot be read: {error}", self.file.display()))?;
+    fn compare(&mut self, line: &Line, report: &Path) -> Result<(), String> {
+        let bytes = fs::read(report)
+            .map_err(|error| format!("{} cannot be read: {error}", report.display()))?;
         let night = &line.night.path;
-        match self.expected.iter().find(|(path, _)| path == night) {
-            Some((_, expected)) if *expected != report => {
-                Err(format!("{} reports something else", line.name))
-            }
+        match self.0.iter().find(|first| first.night == *night) {
+            Some(first) if first.bytes != bytes => Err(format!(
+                "{} and {} report different things on the night {}",
+                first.by,
+                line.name,
+                night.display()
+            )),
             Some(_) => Ok(()),
             None => {
-                self.expected.push((night.clone(), report));
+                self.0.push(FirstReport {
+                    night: night.clone(),
+                    by: line.name.clone(),
+                    bytes,
+                });
                 Ok(())
             }
         }

@@ -2,7 +2,8 @@
 
 use super::chart::Bar;
 use super::cost::{Cost, Line};
-use super::{Version, CALLS, SEED};
+use super::version::Version;
+use super::{CALLS, SEED};
 use crate::made::{Folder, Night};
 use compare::make;
 use std::ops::Range;
@@ -38,79 +39,119 @@ impl Nights {
             any_name: any_name?,
         })
     }
-}
 
-pub fn lines<'a>(version: &Version, nights: &'a Nights) -> Vec<Line<'a>> {
-    vec![
-        version.replaying(&nights.near),
-        version.replaying(&nights.names_behind),
-        version.replaying(&nights.both_behind),
-        version.replaying(&nights.any_name),
-        version.judging(&nights.any_name),
-        version.part("check", &nights.any_name),
-        version.part("nothing", &nights.any_name),
-    ]
-}
-
-/// A call's costs and those of its parts. Finding is what a call spends on the slots before the right one, in all its searches.
-struct Parts<'a> {
-    replay: &'a Cost,
-    judge: &'a Cost,
-    check: Cost,
-    name: Cost,
-    key: Cost,
-}
-
-impl Parts<'_> {
-    fn of(costs: &[Cost]) -> Option<Parts<'_>> {
-        let [near, names_behind, both_behind, replay, judge, check, nothing] = costs else {
-            return None;
-        };
-        let a_name = names_behind.less(near).times(1.0 / NAMES_BEHIND);
-        let both = both_behind.less(near).times(1.0 / BOTH_BEHIND);
-        Some(Parts {
-            replay,
-            judge,
-            check: check.less(nothing),
-            key: both.less(&a_name).times(BEFORE_A_KEY),
-            name: a_name.times(BEFORE_A_NAME),
-        })
+    /// A program on each of them.
+    fn by<'a>(&'a self, program: impl Fn(&'a Night) -> Line<'a>) -> Places<'a> {
+        Places {
+            near: program(&self.near),
+            names_behind: program(&self.names_behind),
+            both_behind: program(&self.both_behind),
+            any_name: program(&self.any_name),
+        }
     }
 }
 
-pub fn print(_: &[Line], costs: &[Cost]) {
-    let Some(parts) = Parts::of(costs) else {
-        return;
-    };
-    println!("{:<44} {}", "replay", parts.replay);
-    parts.name.print_share("  finding the name", parts.replay);
-    parts.key.print_share("  finding the key", parts.replay);
-    println!("{:<44} {}", "judge on lent bytes", parts.judge);
-    parts
-        .check
-        .print_share("  the soundness check", parts.judge);
-    parts.name.print_share("  finding the name", parts.judge);
-    parts.key.print_share("  finding the key", parts.judge);
+struct Places<'a> {
+    near: Line<'a>,
+    names_behind: Line<'a>,
+    both_behind: Line<'a>,
+    any_name: Line<'a>,
 }
 
-/// The instructions of `replay` and of the library, part by part.
-pub fn bars(version: &str, costs: &[Cost]) -> Option<[Bar; 2]> {
-    let Parts {
-        replay,
-        judge,
-        check,
-        name,
-        key,
-    } = Parts::of(costs)?;
-    let found = [("finding the key", &key), ("finding the name", &name)];
-    let [key, name] = found;
-    let check = ("the soundness check", &check);
-    Some([
-        Bar::of(&format!("replay, {version}"), replay, &found),
-        Bar::of(
-            &format!("judge on lent bytes, {version}"),
-            judge,
-            &[key, name, check],
-        ),
-    ])
+impl<'a> Places<'a> {
+    fn lines_mut(&mut self) -> [&mut Line<'a>; 4] {
+        [
+            &mut self.near,
+            &mut self.names_behind,
+            &mut self.both_behind,
+            &mut self.any_name,
+        ]
+    }
+
+    fn a_name_slot(&self) -> Cost {
+        let behind = self.names_behind.cost.less(&self.near.cost);
+        behind.scaled(1.0 / NAMES_BEHIND)
+    }
+
+    /// What a call spends on the slots before its name's, in all its searches.
+    fn name(&self) -> Cost {
+        self.a_name_slot().scaled(BEFORE_A_NAME)
+    }
+
+    /// The same of its key.
+    fn key(&self) -> Cost {
+        let behind = self.both_behind.cost.less(&self.near.cost);
+        let both = behind.scaled(1.0 / BOTH_BEHIND);
+        both.less(&self.a_name_slot()).scaled(BEFORE_A_KEY)
+    }
+}
+
+pub struct Finding<'a> {
+    version: &'static str,
+    replay: Places<'a>,
+    judge: Places<'a>,
+    check: Line<'a>,
+    nothing: Line<'a>,
+}
+
+impl<'a> Finding<'a> {
+    pub fn of(version: &Version, nights: &'a Nights) -> Finding<'a> {
+        let part = |word| version.part(word, word, &nights.any_name);
+        Finding {
+            version: version.name,
+            replay: nights.by(|night| version.replaying(night)),
+            judge: nights.by(|night| version.judging(night)),
+            check: part("check"),
+            nothing: part("nothing"),
+        }
+    }
+
+    pub fn lines_mut(&mut self) -> impl Iterator<Item = &mut Line<'a>> {
+        let replay = self.replay.lines_mut().into_iter();
+        let judge = self.judge.lines_mut().into_iter();
+        let parts = [&mut self.check, &mut self.nothing];
+        replay.chain(judge).chain(parts)
+    }
+
+    fn soundness_check(&self) -> Cost {
+        self.check.cost.less(&self.nothing.cost)
+    }
+
+    pub fn print(&self) {
+        let (replay, judge) = (&self.replay.any_name.cost, &self.judge.any_name.cost);
+        replay.print("replay");
+        self.replay.name().print_share("  finding the name", replay);
+        self.replay.key().print_share("  finding the key", replay);
+        judge.print("judge on lent bytes");
+        self.soundness_check()
+            .print_share("  the soundness check", judge);
+        self.judge.name().print_share("  finding the name", judge);
+        self.judge.key().print_share("  finding the key", judge);
+    }
+
+    /// The instructions of `replay` and of `judge`, part by part.
+    pub fn bars(&self) -> [Bar; 2] {
+        let replay = [
+            ("finding the key", self.replay.key()),
+            ("finding the name", self.replay.name()),
+        ];
+        let judge = [
+            ("finding the key", self.judge.key()),
+            ("finding the name", self.judge.name()),
+            ("the soundness check", self.soundness_check()),
+        ];
+        let version = self.version;
+        [
+            Bar::of(
+                &format!("replay, {version}"),
+                &self.replay.any_name.cost,
+                &replay,
+            ),
+            Bar::of(
+                &format!("judge on lent bytes, {version}"),
+                &self.judge.any_name.cost,
+                &judge,
+            ),
+        ]
+    }
 }

@@ -1,8 +1,8 @@
 //! What each rule of the soundness check takes: tables that break one rule in the last slot, in the order of the rules, each
 //! against the one before.
 
-use super::cost::{Cost, Line};
-use super::Version;
+use super::cost::Line;
+use super::version::Version;
 use crate::made::Night;
 
 /// The words of `lent_replay`, and what each checks beyond the one before; the last makes the whole check.
@@ -11,26 +11,33 @@ const UP_TO: [(&str, &str); 8] = [
     ("head", "the call, and the first eight bytes"),
     ("keys-shaped", "keys are shaped"),
     ("keys-distinct", "no key twice"),
-    (
-        "names-shaped",
-        "names are shaped: well-formed, zeros behind",
-    ),
+    ("names-shaped", "names are shaped"),
     ("names-distinct", "no name twice"),
     ("names-keyed", "each name has a key"),
     ("check", "each key has a name"),
 ];
 
-pub fn lines<'a>(version: &Version, night: &'a Night) -> Vec<Line<'a>> {
-    let line = |(word, beyond): (_, &str)| version.part(word, night).named(beyond);
-    UP_TO.into_iter().map(line).collect()
+pub struct Rules<'a> {
+    lines: [Line<'a>; 8],
 }
 
-pub fn print(lines: &[Line], costs: &[Cost]) {
-    let (Some(reading), Some(last)) = (costs.first(), costs.last()) else {
-        return;
-    };
-    let whole = last.less(reading);
-    for (line, costs) in lines[1..].iter().zip(costs.windows(2)) {
-        costs[1].less(&costs[0]).print_share(&line.name, &whole);
+impl<'a> Rules<'a> {
+    pub fn of(version: &Version, night: &'a Night) -> Rules<'a> {
+        Rules {
+            lines: UP_TO.map(|(word, beyond)| version.part(beyond, word, night)),
+        }
+    }
+
+    pub fn lines_mut(&mut self) -> impl Iterator<Item = &mut Line<'a>> {
+        self.lines.iter_mut()
+    }
+
+    pub fn print(&self) {
+        let [reading, .., whole] = &self.lines;
+        let whole = whole.cost.less(&reading.cost);
+        for pair in self.lines.windows(2) {
+            let rule = pair[1].cost.less(&pair[0].cost);
+            rule.print_share(&pair[1].name, &whole);
+        }
     }
 }

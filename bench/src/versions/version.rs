@@ -9,7 +9,7 @@ use std::path::{Path, PathBuf};
 pub struct Version {
     pub name: &'static str,
     replay: PathBuf,
-    pub lent_replay: PathBuf,
+    lent_replay: PathBuf,
 }
 
 impl Version {
@@ -41,8 +41,7 @@ impl Version {
     }
 
     /// A part of each call alone, by the word of `lent_replay`.
-    pub fn part<'a>(&self, word: &'static str, night: &'a Night) -> Line<'a> {
-        let name = format!("{word}, {}", self.name);
+    pub fn part<'a>(&self, name: &str, word: &'static str, night: &'a Night) -> Line<'a> {
         Line::part(name, Program::with(&self.lent_replay, word), night)
     }
 }
