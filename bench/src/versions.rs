@@ -54,15 +54,15 @@ pub fn report(folder_before: &Path, repeats: usize) -> Result<(), String> {
     print_each(&second);
     heading("the soundness check after, rule by rule");
     rules.print();
-    let picture = picture(&finding_before, &finding_after, &second);
     let path = folder_before.join("calls.svg");
-    fs::write(&path, picture)
-        .map_err(|error| format!("{} cannot be written: {error}", path.display()))?;
+    save(&path, &picture(&finding_before, &finding_after, &second))
+}
+
+fn save(path: &Path, picture: &str) -> Result<(), String> {
+    let name = path.display();
+    fs::write(path, picture).map_err(|error| format!("{name} cannot be written: {error}"))?;
     println!();
-    println!(
-        "{} has the calls that confirm a pin as a picture",
-        path.display()
-    );
+    println!("{name} has the calls that confirm a pin as a picture");
     Ok(())
 }
 

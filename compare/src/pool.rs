@@ -41,7 +41,8 @@ fn long() -> String {
     (0..250).map(letter).collect()
 }
 
-/// A key; other numbers below 256 give other keys of the family. Number 0 is all zero but in one, as a free slot is.
+/// A key; other numbers below 256 give other keys of the family. Number 0 is all zero, as a free slot is, in every family
+/// but the one of 0xff.
 pub fn key(family: usize, number: usize) -> Key {
     let byte = number as u8;
     let mut key = [0; 64];
