@@ -10,3 +10,4 @@ pub mod Cut
 pub mod Refused
 pub mod Small
 pub mod Spellings
+pub mod ShortNames

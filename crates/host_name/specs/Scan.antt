@@ -1,5 +1,5 @@
 -- The bytes of a name, those before its first dot, and a name at the end of an array. Assumes nothing.
--- Only private functions cite it: a reader of the open contract can skip it.
+-- Only functions below the open ones cite it: a reader of the open contract can skip it.
 use mathlib.Core.Path.{_≡_}
 use Prim.Native.Nat.{ℕ, _≤_}
 use mathlib.Core.Bool.{Bool, true, cond, _||_}

@@ -15,7 +15,8 @@ fn letter_or_digit(b: u8) -> bool
     ((b'a' <= b) & (b <= b'z')) | ((b'0' <= b) & (b <= b'9'))
 }
 
-fn name_byte(b: u8) -> bool
+// Whether the byte may stand in a name.
+pub fn name_byte(b: u8) -> bool
     ensures { λ r. ⌜ r ≡ nameByte b ⌝ }
 {
     letter_or_digit(b) | (b == b'-') | (b == b'.')

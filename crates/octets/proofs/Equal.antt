@@ -1,15 +1,15 @@
--- Laws of `same` and `allZero`: what a loop that compares has to show. Assumes nothing.
+-- Laws of `same`, `all` and `allZero`: what a loop that compares has to show. Assumes nothing.
 use mathlib.Core.Path.{_≡_, refl, sym, ap, _∙_}
 use mathlib.Core.Bool.{Bool, true, false, _&&_, false≢true}
 use mathlib.Core.List.{List, [], _∷_}
-use Prim.Native.Nat.{ℕ, zero, suc, _+_, _≤_, _<_}
+use Prim.Native.Nat.{ℕ, zero, suc, _+_, _-_, _≤_, _<_}
 use native.Mathlib.Omega.{arith}
 use lib.Dec.{eqb}
 use lib.ListN.{length, getD, replicate, length-replicate, getD-replicate}
 use lib.Seq.{ext-getD}
 use borrow.Author.Tests.{eqb-true, eq-eqb}
 use Rattle.octets.specs.Octets.{part, same, all, allZero}
-use Rattle.octets.proofs.Tests.{is-false, both-ways, and-left, and-right}
+use Rattle.octets.proofs.Tests.{is-false, both-ways, and-left, and-right, and-both}
 use Rattle.octets.proofs.Parts.{part-length, part-at}
 
 pub same-true : (xs ys : List ℕ) → same xs ys ≡ true → xs ≡ ys
@@ -46,6 +46,17 @@ module _ (b : List ℕ) (at : ℕ) (p : List ℕ) (fits : at + length p ≤ leng
   pub differ-part : (i : ℕ) → i < length p → (getD b (at + i) 0 ≡ getD p i 0 → ⊥) → same (part b at (length p)) p ≡ false
   differ-part i l h = same-differ (part b at (length p)) p i (λ e. h (sym (part-at b at (length p) i l) ∙ e))
 
+-- a test of each element, at each place
+module _ (p : ℕ → Bool) where
+  pub all-at : (s : List ℕ) → all p s ≡ true → (i : ℕ) → i < length s → p (getD s i 0) ≡ true
+  all-at [] h i l = absurd (omega arith)
+  all-at (b ∷ s) h zero l = and-left (p b) (all p s) h
+  all-at (b ∷ s) h (suc i) l = all-at s (and-right (p b) (all p s) h) i (omega arith)
+
+  pub all-each : (s : List ℕ) → ((i : ℕ) → i < length s → p (getD s i 0) ≡ true) → all p s ≡ true
+  all-each [] h = refl
+  all-each (b ∷ s) h = and-both (p b) (all p s) (h 0 (omega arith)) (all-each s (λ i l. h (suc i) (omega arith)))
+
 -- zeros, as a list and at each place
 pub zeros-are : (xs : List ℕ) → allZero xs ≡ true → xs ≡ replicate (length xs) 0
 unfolding allZero
@@ -68,6 +79,17 @@ zero-at (x ∷ xs) e (suc i) = zero-at xs (and-right (eqb x 0) (allZero xs) e) i
 
 pub zero-each : (xs : List ℕ) → ((i : ℕ) → i < length xs → getD xs i 0 ≡ 0) → allZero xs ≡ true
 zero-each xs h = ap allZero (ext-getD 0 xs (replicate (length xs) 0) (sym (length-replicate (length xs) 0)) (λ i l. h i l ∙ sym (getD-replicate (length xs) i 0 0 l))) ∙ are-zeros (length xs)
+
+-- the same of a part, at the places of the whole
+pub part-zero-at : (b : List ℕ) (at n : ℕ) → allZero (part b at n) ≡ true → (i : ℕ) → at ≤ i → i < at + n → getD b i 0 ≡ 0
+part-zero-at b at n e i l k =
+    let place : at + (i - at) ≡ i = omega arith in
+    ap (λ (j : ℕ). getD b j 0) (sym place) ∙ sym (part-at b at n (i - at) (omega arith)) ∙ zero-at (part b at n) e (i - at)
+
+pub part-zero-each : (b : List ℕ) (at n : ℕ) → at + n ≤ length b → ((i : ℕ) → at ≤ i → i < at + n → getD b i 0 ≡ 0) → allZero (part b at n) ≡ true
+part-zero-each b at n fits h =
+    zero-each (part b at n)
+    (λ i l. let k : i < n = omega (arith, part-length b at n fits) in part-at b at n i k ∙ h (at + i) (omega arith) (omega arith))
 
 -- a number that is zero exactly when each byte is
 pub all-zero : (b : List ℕ) (at n most : ℕ) → at + n ≤ length b

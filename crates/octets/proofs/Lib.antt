@@ -4,3 +4,4 @@ pub mod Numbers
 pub mod Equal
 pub mod Search
 pub mod Runs
+pub mod Words

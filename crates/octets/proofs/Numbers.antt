@@ -5,7 +5,7 @@ use mathlib.Core.Logic.{_↔_}
 use Prim.Native.Nat.{ℕ, zero, suc, _+_, _*_, _/_, _%_, _^_, _≤_, _<_}
 use native.Mathlib.Nat.{pow-suc, div-add-mod, div-lt-iff-lt-mul, div-div-eq-div-mul, add-zero}
 use native.Mathlib.Omega.{arith}
-use lib.ListN.{length, take, drop, getD, length-append}
+use lib.ListN.{length, take, drop, getD, length-append, take-append-drop}
 use lib.Seq.{drop-cons}
 use native.Mathlib.Numerals.{add-one}
 use Rattle.octets.specs.Octets.{part, bigEndian, number, numberAfter}
@@ -14,7 +14,7 @@ use Rattle.octets.specs.Octets.{part, bigEndian, number, numberAfter}
 abbrev pub Bytes : List ℕ → Type 0
 Bytes s = (i : ℕ) → getD s i 0 < 256
 
--- what stands in front of bytes, and what stands behind
+-- what stands in front of bytes, what stands behind, and a part
 pub bytes-front : (p r : List ℕ) → Bytes (p ++ r) → Bytes p
 bytes-front [] r h i = omega arith
 bytes-front (x ∷ p) r h zero = h 0
@@ -23,6 +23,12 @@ bytes-front (x ∷ p) r h (suc i) = bytes-front p r (λ j. h (suc j)) i
 pub bytes-behind : (p r : List ℕ) → Bytes (p ++ r) → Bytes r
 bytes-behind [] r h = h
 bytes-behind (x ∷ p) r h = bytes-behind p r (λ j. h (suc j))
+
+pub bytes-part : (b : List ℕ) (at n : ℕ) → Bytes b → Bytes (part b at n)
+unfolding part
+bytes-part b at n h =
+    bytes-front (take n (drop at b)) (drop n (drop at b))
+    (rw take-append-drop (bytes-behind (take at b) (drop at b) (rw take-append-drop h)))
 
 pub bigEndian-length : (w v : ℕ) → length (bigEndian w v) ≡ w
 unfolding bigEndian

@@ -7,7 +7,7 @@ use native.Mathlib.Nat.{add-zero}
 use native.Mathlib.Numerals.{add-one}
 use native.Mathlib.Omega.{arith}
 use lib.ListN.{drop-of-length-le, length, take, drop, getD, set, replicate, length-append, length-take, length-drop, take-append-drop, length-replicate, List·getD-append}
-use lib.Seq.{drop-drop, take-suc, length-take-le, getD-take, getD-drop, getD-append-add, take-at, drop-at, ext-getD, set-at, drop-cons, append-snoc}
+use lib.Seq.{take-all, take-add, drop-drop, take-suc, length-take-le, getD-take, getD-drop, getD-append-add, take-at, drop-at, ext-getD, set-at, drop-cons, append-snoc}
 use Rattle.octets.specs.Octets.{part, put}
 use Rattle.octets.proofs.Tests.{below-or}
 
@@ -18,6 +18,15 @@ part-length b at n h = simp (length-take, length-drop) (omega arith)
 pub part-at : (b : List ℕ) (at n i : ℕ) → i < n → getD (part b at n) i 0 ≡ getD b (at + i) 0
 unfolding part
 part-at b at n i h = rw (getD-take, getD-drop)
+
+-- all of it, and a part in two
+pub part-all : (b : List ℕ) (n : ℕ) → length b ≡ n → part b 0 n ≡ b
+unfolding part
+part-all b n e = take-all n b (omega arith)
+
+pub part-add : (b : List ℕ) (at n m : ℕ) → part b at (n + m) ≡ part b at n ++ part b (at + n) m
+unfolding part
+part-add b at n m = take-add n m (drop at b) ∙ ap (λ (l : List ℕ). take n (drop at b) ++ take m l) (drop-drop n at b)
 
 pub put-length : (b : List ℕ) (at : ℕ) (vs : List ℕ) → at + length vs ≤ length b → length (put b at vs) ≡ length b
 unfolding put

@@ -1,8 +1,9 @@
 -- Laws of `specs/Search.antt`: what a loop over the numbers below n has to show. Assumes nothing.
 use mathlib.Core.Path.{_≡_, refl, sym, ap, _∙_}
-use mathlib.Core.Bool.{Bool, true, false, _&&_, _||_, false≢true, true≢false, and-false, or-true}
-use Prim.Native.Nat.{ℕ, zero, suc, _≤_, _<_, zero-le, suc-le-suc}
+use mathlib.Core.Bool.{Bool, true, false, _&&_, _||_, false≢true, true≢false, and-false, and-true, and-assoc, or-true, or-false, or-assoc}
+use Prim.Native.Nat.{ℕ, zero, suc, _+_, _≤_, _<_, zero-le, suc-le-suc}
 use native.Mathlib.Nat.{le-of-suc-le-suc, not-suc-le-zero}
+use native.Mathlib.Numerals.{add-one}
 use Rattle.octets.specs.Search.{every, some, first}
 use Rattle.octets.proofs.Tests.{and-left, and-right}
 
@@ -22,6 +23,30 @@ unfolding every
 every-at p zero i h l = absurd (not-suc-le-zero l)
 every-at p (suc n) zero h l = and-left (p zero) (every (λ j. p (suc j)) n) h
 every-at p (suc n) (suc i) h l = every-at (λ j. p (suc j)) n i (and-right (p zero) (every (λ j. p (suc j)) n) h) (le-of-suc-le-suc l)
+
+pub every-none : (p : ℕ → Bool) → true ≡ every p 0
+unfolding every
+every-none p = refl
+
+-- one number more
+every-suc : (p : ℕ → Bool) (n : ℕ) → every p (suc n) ≡ (every p n && p n)
+unfolding every
+every-suc p zero = and-true (p zero)
+every-suc p (suc n) =
+    ap (λ (b : Bool). p zero && b) (every-suc (λ i. p (suc i)) n) ∙ sym (and-assoc (p zero) (every (λ i. p (suc i)) n) (p (suc n)))
+
+pub every-more : (p : ℕ → Bool) (n : ℕ) → every p (n + 1) ≡ (every p n && p n)
+every-more p n = ap (every p) (add-one n) ∙ every-suc p n
+
+-- the same of `some`
+some-suc : (p : ℕ → Bool) (n : ℕ) → some p (suc n) ≡ (some p n || p n)
+unfolding some
+some-suc p zero = or-false (p zero)
+some-suc p (suc n) =
+    ap (λ (b : Bool). p zero || b) (some-suc (λ i. p (suc i)) n) ∙ sym (or-assoc (p zero) (some (λ i. p (suc i)) n) (p (suc n)))
+
+pub some-more : (p : ℕ → Bool) (n : ℕ) → some p (n + 1) ≡ (some p n || p n)
+some-more p n = ap (some p) (add-one n) ∙ some-suc p n
 
 pub some-false : (p : ℕ → Bool) (n : ℕ) → ((i : ℕ) → i < n → p i ≡ false) → some p n ≡ false
 unfolding some

@@ -1,8 +1,9 @@
 // Bytes at a place of a slice: read, written and compared. Each function that writes gives the place behind what it wrote.
 ghost use mathlib.Core.Path.{_≡_};
-ghost use Prim.Native.Nat.{_+_, _≤_, _<_};
+ghost use Prim.Native.Nat.{_+_, _≤_, _<_, max};
 ghost use lib.ListN.{length, replicate};
 ghost use Rattle.octets.specs.Octets.{part, put, bigEndian, number, allZero, same};
+ghost use Rattle.octets.specs.Words.{word};
 
 // A byte as a wider number, so that callers prove no cast.
 fn wide(byte: u8) -> u32
@@ -81,30 +82,82 @@ pub fn put_part(s: &mut [u8], at: usize, p: &[u8]) -> usize
     at + p.len()
 }
 
-// Whether the bytes from `at` are those of p. Keys begin alike and names end alike: it goes inwards from both ends, the last byte
-// first, and stops at the first that differs.
-pub fn same_at(s: &[u8], at: usize, p: &[u8]) -> bool
+// The little-endian number in the four bytes from `at`.
+fn half_word_at(s: &[u8], at: usize) -> u32
+    requires { ⌜ at + 4 ≤ length (now s) ⌝ }
+    ensures { λ r. ⌜ r ≡ word (part (now (s .entry)) at 4) ⌝ }
+{
+    let a = wide(s[at]);
+    let b = wide(s[at + 1]);
+    let c = wide(s[at + 2]);
+    let d = wide(s[at + 3]);
+    a + 256 * (b + 256 * (c + 256 * d))
+}
+
+// The word of the eight bytes from `at`: the little-endian number, which the machine reads in one load.
+pub fn word_at(s: &[u8], at: usize) -> u64
+    requires { ⌜ at + 8 ≤ length (now s) ⌝ }
+    ensures { λ r. ⌜ r ≡ word (part (now (s .entry)) at 8) ⌝ }
+{
+    let low = half_word_at(s, at) as u64;
+    let high = half_word_at(s, at + 4) as u64;
+    low + 4294967296 * high
+}
+
+// Fewer than eight bytes, one by one.
+fn same_few_at(s: &[u8], at: usize, p: &[u8]) -> bool
     requires { ⌜ at + length (now p) ≤ length (now s) ⌝ }
     ensures { λ r. ⌜ r ≡ same (part (now (s .entry)) at (length (now (p .entry)))) (now (p .entry)) ⌝ }
 {
-    let mut low = 0;
-    let mut high = p.len();
-    while low < high {
-        high -= 1;
-        if s[at + high] != p[high] {
+    let mut i = 0;
+    while i < p.len() {
+        if s[at + i] != p[i] {
             return false;
         }
-        if s[at + low] != p[low] {
-            return false;
-        }
-        low += 1;
+        i += 1;
     }
     true
 }
 
-// A byte that is zero exactly when both are: the greater of them.
-fn greater(a: u8, b: u8) -> u8
-    ensures { λ r. ⌜ (a ≤ r) × (b ≤ r) × (r ≤ a + b) ⌝ }
+// Whether the bytes from `at` are those of p: by words of eight bytes from the front, where names differ, up to the first word that
+// differs. The last word may overlap the one before it.
+pub fn same_at(s: &[u8], at: usize, p: &[u8]) -> bool
+    requires { ⌜ at + length (now p) ≤ length (now s) ⌝ }
+    ensures { λ r. ⌜ r ≡ same (part (now (s .entry)) at (length (now (p .entry)))) (now (p .entry)) ⌝ }
+{
+    let n = p.len();
+    if n < 8 {
+        return same_few_at(s, at, p);
+    }
+    let last = n - 8;
+    let mut i = 0;
+    while i < last {
+        if word_at(s, at + i) != word_at(p, i) {
+            return false;
+        }
+        i += 8;
+    }
+    word_at(s, at + last) == word_at(p, last)
+}
+
+// The same of 64 bytes, as a key has: from the last word down to the first, since keys may begin alike.
+pub fn same_64_at(s: &[u8], at: usize, p: &[u8]) -> bool
+    requires { ⌜ (at + 64 ≤ length (now s)) × (length (now p) ≡ 64) ⌝ }
+    ensures { λ r. ⌜ r ≡ same (part (now (s .entry)) at 64) (now (p .entry)) ⌝ }
+{
+    let mut i = 64;
+    while 0 < i {
+        i -= 8;
+        if word_at(s, at + i) != word_at(p, i) {
+            return false;
+        }
+    }
+    true
+}
+
+// The greater of two bytes, by a function of its own, since a loop over it goes by vectors.
+pub fn greater(a: u8, b: u8) -> u8
+    ensures { λ r. ⌜ r ≡ max a b ⌝ }
 {
     if a < b {
         return b;

@@ -43,9 +43,9 @@ module _ {A : Type 0} {s : List ℕ} {a : A} {x : Option A} (r : ReadFrom s a x)
   pub read-used : (p : A → Bool) → isUsed s ≡ true → holds p x ≡ p a
   read-used p u = rw (r .is, u)
 
-pub read-key : {s : List ℕ} {x : Option KeyRecord} (key : List ℕ) → ReadFrom s (keyRead s) x → length key ≡ 64 → isUsed s ≡ true
-    → same (part s 8 (length key)) key ≡ holds (keyIs key) x
-read-key {s} key r l u = ap (λ (n : ℕ). same (part s 8 n) key) l ∙ sym (read-used r (keyIs key) u)
+pub read-key : {s : List ℕ} {x : Option KeyRecord} (key : List ℕ) → ReadFrom s (keyRead s) x → isUsed s ≡ true
+    → same (part s 8 64) key ≡ holds (keyIs key) x
+read-key key r u = sym (read-used r (keyIs key) u)
 
 module _ {s : List ℕ} {a : NameRecord} {x : Option NameRecord} (name : List ℕ) (r : ReadFrom s a x) (its : a .name ≡ nameIn s) where
   pub read-name : nameLength s ≡ length name → isUsed s ≡ true → same (part s 16 (length name)) name ≡ holds (nameIs name) x

@@ -32,7 +32,7 @@ pub fn holds_key(area: &[u8], k: KeySlot, key: &[u8]) -> bool
     if !slots::is_used(s) {
         return false;
     }
-    octets::same_at(s, 8, key)
+    octets::same_64_at(s, 8, key)
 }
 
 // Whether the slot holds this name's record.

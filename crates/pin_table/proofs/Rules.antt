@@ -1,18 +1,18 @@
 -- What a call's answer says of the rule that it computes, and the parts that slots lend. Assumes nothing.
-use mathlib.Core.Path.{_≡_, sym, ap, _∙_}
-use mathlib.Core.Bool.{Bool, true, false, not}
+use mathlib.Core.Path.{_≡_, sym, ap, ap₂, _∙_}
+use mathlib.Core.Bool.{Bool, true, false, not, _&&_}
 use mathlib.Core.List.{List}
 use Prim.Native.Nat.{ℕ, _+_, _-_, _≤_, _<_}
 use native.Mathlib.Omega.{arith}
 use lib.ListN.{length, take, drop, getD, replicate}
-use lib.Seq.{take-all}
 use borrow.Author.Tests.{not-true, not-false}
 use Rattle.octets.specs.Octets.{part, same, allZero}
 use Rattle.octets.proofs.Tests.{is-false}
-use Rattle.octets.proofs.Parts.{part-length}
+use Rattle.octets.proofs.Parts.{part-length, part-part}
 use Rattle.octets.proofs.Equal.{same-true, zeros-are}
+use Rattle.host_name.specs.Name.{wellFormed}
 use Rattle.pin_model.specs.Layout.{areaLength}
-use Rattle.pin_model.specs.Sound.{nameLength, nameIn, sound}
+use Rattle.pin_model.specs.Sound.{nameLength, nameIn, nameFormed, sound}
 use Rattle.pin_model.proofs.SoundEncode.{zeros-sound}
 
 -- a rule's value, where a call answered r for it and the code went by `!r`
@@ -30,13 +30,18 @@ lent s at n end e h =
     let w : end - at ≡ n = omega arith in
     (ap (λ (m : ℕ). take m (drop at s)) w, rw w (part-length s at n h))
 
-pub part-whole : (s : List ℕ) (n : ℕ) → length s ≡ n → part s 0 n ≡ s
-unfolding part
-part-whole s n e = take-all n s (omega arith)
-
 -- a lent part p, which is q, compared
 pub same-lent : (s p q : List ℕ) (at n : ℕ) → p ≡ q → length p ≡ n → same (part s at (length p)) p ≡ same (part s at n) q
 same-lent s p q at n e l = rw (l, e)
+
+-- a slot's padded name
+pub padded-formed : (s p : List ℕ) (n : ℕ) → length s ≡ 272 → nameLength s < 256 → p ≡ part s 16 256 → n ≡ nameLength s
+    → (wellFormed (part p 0 n) && allZero (part p n (256 - n))) ≡ nameFormed s
+unfolding nameFormed
+padded-formed s p n long below e f =
+    rw (e, f)
+    (ap₂ _&&_ (ap wellFormed (part-part s 16 256 0 (nameLength s) (omega arith) (omega arith)))
+    (ap allZero (part-part s 16 256 (nameLength s) (256 - nameLength s) (omega arith) (omega arith))))
 
 -- names of different lengths differ
 pub name-sized : (s : List ℕ) → length s ≡ 272 → nameLength s < 256 → length (nameIn s) ≡ nameLength s

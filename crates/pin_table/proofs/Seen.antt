@@ -2,8 +2,7 @@
 use mathlib.Core.Path.{_≡_, refl, sym, ap, _∙_}
 use mathlib.Core.Bool.{Bool, true, false, _&&_, _||_, true≢false}
 use mathlib.Core.List.{List}
-use Prim.Native.Nat.{ℕ, zero, suc, _+_, _<_}
-use native.Mathlib.Numerals.{add-one}
+use Prim.Native.Nat.{ℕ, _+_, _<_}
 use native.Mathlib.Omega.{arith}
 use lib.Dec.{eqb}
 use lib.ListN.{length, getD, set, replicate, length-set, length-replicate, getD-replicate}
@@ -14,9 +13,11 @@ use Rattle.octets.specs.Octets.{same}
 use Rattle.octets.specs.Search.{some}
 use Rattle.octets.proofs.Tests.{byTest, is-false, and-left, and-right}
 use Rattle.octets.proofs.Equal.{same-true}
-use Rattle.octets.proofs.Search.{some-true, some-false}
+use Rattle.octets.proofs.Search.{some-true, some-false, some-more}
 use Rattle.pin_model.specs.Sound.{nameSlot, isUsed, keyNumber, refersTo}
+use Rattle.pin_table.specs.SeenMarks.{isSeen, withSeen}
 use Rattle.pin_table.specs.Marked.{KeysMarked}
+use Rattle.pin_table.proofs.SeenBits.{with-size, now-seen, still-seen}
 
 -- whether a slot before slot n says what it says: `keyTwice` and `nameTwice`, over the slots and the field that is compared
 abbrev pub twice : (ℕ → List ℕ) → (List ℕ → List ℕ) → ℕ → Bool
@@ -24,16 +25,13 @@ twice slot field n = some (λ j. isUsed (slot n) && (isUsed (slot j) && same (fi
 
 -- none of the first n slots says what one before it says, and each used one of them has its mark among those seen
 pub record Apart (slot : ℕ → List ℕ) (field : List ℕ → List ℕ) (mark : List ℕ → ℕ) (seen : List ℕ) (n : ℕ) : Type 0 where
-  pub size : length seen ≡ 4096
+  pub size : length seen ≡ 128
   pub once : (j : ℕ) → j < n → twice slot field j ≡ false
-  pub marked : (j : ℕ) → j < n → isUsed (slot j) ≡ true → getD seen (mark (field (slot j))) 0 ≡ 0 → ⊥
-
-not-both : {x : ℕ} → x ≡ 1 → x ≡ 0 → ⊥
-not-both p q = omega arith
+  pub marked : (j : ℕ) → j < n → isUsed (slot j) ≡ true → isSeen seen (mark (field (slot j))) ≡ true
 
 module _ (slot : ℕ → List ℕ) (field : List ℕ → List ℕ) (mark : List ℕ → ℕ) where
-  pub none-seen : Apart slot field mark (replicate 4096 0) 0
-  none-seen = record { size = length-replicate {A = ℕ} 4096 0; once = below-none _; marked = below-none _ }
+  pub none-seen : Apart slot field mark (replicate 128 0) 0
+  none-seen = record { size = length-replicate {A = ℕ} 128 0; once = below-none _; marked = below-none _ }
 
   module _ (seen : List ℕ) (n : ℕ) (a : Apart slot field mark seen n) where
     pub passed-free : isUsed (slot n) ≡ false → Apart slot field mark seen (n + 1)
@@ -41,62 +39,35 @@ module _ (slot : ℕ → List ℕ) (field : List ℕ → List ℕ) (mark : List 
         record {
           size = a .size;
           once = below-more _ _ (a .once) (some-false _ n (λ j l. rw f));
-          marked = below-more _ _ (a .marked) (λ u z. true≢false (sym u ∙ f));
+          marked = below-more _ _ (a .marked) (λ u. absurd (true≢false (sym u ∙ f)));
         }
 
     -- what the code computed as the mark of slot n
     module _ (m : ℕ) (e : m ≡ mark (field (slot n))) where
-      pub passed-seen : (getD seen m 0 ≡ 0 → ⊥) → twice slot field n ≡ false → Apart slot field mark seen (n + 1)
-      passed-seen s t =
-          record {
-            size = a .size;
-            once = below-more _ _ (a .once) t;
-            marked = below-more _ _ (a .marked) (λ u z. s (ap (λ (i : ℕ). getD seen i 0) e ∙ z));
-          }
-
       -- a mark that was not seen: a slot that says the same would have left it
-      unseen : getD seen m 0 ≡ 0 → twice slot field n ≡ false
+      pub unseen : isSeen seen m ≡ false → twice slot field n ≡ false
       unseen z =
           some-false _ n
           (λ j l. is-false (isUsed (slot n) && (isUsed (slot j) && same (field (slot n)) (field (slot j))))
           (λ t.
           let r : (isUsed (slot j) && same (field (slot n)) (field (slot j))) ≡ true = and-right (isUsed (slot n)) _ t in
           let q : field (slot n) ≡ field (slot j) = same-true _ _ (and-right (isUsed (slot j)) _ r) in
-          a .marked j l (and-left (isUsed (slot j)) _ r) (ap (λ (i : ℕ). getD seen i 0) (sym (e ∙ ap mark q)) ∙ z)))
+          let s : isSeen seen m ≡ true = ap (isSeen seen) (e ∙ ap mark q) ∙ a .marked j l (and-left (isUsed (slot j)) _ r) in
+          true≢false (sym s ∙ z)))
 
-      kept : m < 4096 → (i : ℕ) → getD (set seen m 1) i 0 ≡ 0 → getD seen i 0 ≡ 0
-      kept l i z =
-          byTest (eqb i m)
-          (λ q. absurd (not-both (ap (λ (k : ℕ). getD (set seen m 1) k 0) (eqb-true i m q) ∙ getD-set-same seen m 1 0 (omega (arith, a .size))) z))
-          (λ q. sym (getD-set-other seen m i 1 0 (eqb-false i m q)) ∙ z)
-
-      pub passed-new : m < 4096 → getD seen m 0 ≡ 0 → Apart slot field mark (set seen m 1) (n + 1)
-      passed-new l z =
+      pub passed-used : m < 8192 → twice slot field n ≡ false → (later : List ℕ) → later ≡ withSeen seen m → Apart slot field mark later (n + 1)
+      passed-used l t later w =
           record {
-            size = length-set seen m 1 ∙ a .size;
-            once = below-more _ _ (a .once) (unseen z);
+            size = ap length w ∙ with-size seen m (a .size) l;
+            once = below-more _ _ (a .once) t;
             marked =
-                below-more _ _ (λ j k u y. a .marked j k u (kept l (mark (field (slot j))) y))
-                (λ u y. not-both (getD-set-same seen m 1 0 (omega (arith, a .size))) (ap (λ (i : ℕ). getD (set seen m 1) i 0) e ∙ y));
+                below-more _ _ (λ j k u. rw w (still-seen seen m (a .size) l (mark (field (slot j))) (a .marked j k u)))
+                (λ u. rw (w, ← e) (now-seen seen m (a .size) l));
           }
-
--- one number more to search
-or-assoc : (x y z : Bool) → (x || (y || z)) ≡ ((x || y) || z)
-or-assoc true y z = refl
-or-assoc false y z = refl
 
 or-no : (x y : Bool) → y ≡ false → x ≡ (x || y)
 or-no true y e = refl
 or-no false y e = sym e
-
-some-suc : (p : ℕ → Bool) (n : ℕ) → some p (suc n) ≡ (some p n || p n)
-unfolding some
-some-suc p zero = elim (p zero) as (λ b. (b || false) ≡ b) [ true ↦ refl | false ↦ refl ]
-some-suc p (suc n) =
-    ap (λ (b : Bool). p zero || b) (some-suc (λ i. p (suc i)) n) ∙ or-assoc (p zero) (some (λ i. p (suc i)) n) (p (suc n))
-
-some-more : (p : ℕ → Bool) (n : ℕ) → some p (n + 1) ≡ (some p n || p n)
-some-more p n = ap (some p) (add-one n) ∙ some-suc p n
 
 -- the keys that names refer to
 pub none-marked : (b : List ℕ) → KeysMarked b (replicate 256 0) 0

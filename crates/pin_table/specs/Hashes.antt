@@ -1,32 +1,40 @@
--- A number below 4,096 for a key and for a name, by which the search for doubles sorts them. Assumes nothing.
+-- A mark, a number below 8,192, for a key and for a name, by which doubles are sought. Assumes nothing.
 -- Only private functions cite it: a reader of the open contracts can skip it.
-use Prim.Native.Nat.{ℕ, zero, suc, _+_, _*_, _-_, _/_, _%_}
-use mathlib.Core.Bool.{cond}
-use mathlib.Core.List.{List}
-use lib.ListN.{length}
-use lib.Dec.{ltb}
-use Rattle.octets.specs.Octets.{part, number}
+use Prim.Native.Nat.{ℕ, zero, suc, _+_, _*_, _-_, _/_, _%_, _^_}
+use mathlib.Core.List.{List, _++_}
+use lib.Bits.{bitXor}
+use lib.ListN.{length, replicate}
+use Rattle.octets.specs.Octets.{part}
+use Rattle.octets.specs.Words.{word}
 
--- the two halves of 64 bits, added
-abbrev pub folded : ℕ → ℕ
-folded n = (n / 4294967296 + n % 4294967296) % 4294967296
+-- 64 bits rotated by 13 places
+unfoldable pub rotated : ℕ → ℕ
+rotated h = h % 2 ^ 51 * 2 ^ 13 + h / 2 ^ 51
 
-unfoldable pub stir : ℕ → ℕ → ℕ
-stir h word = folded (h * 2654435761 + word)
+-- a hash with one word more
+unfoldable pub withWord : ℕ → ℕ → ℕ
+withWord h w = bitXor (rotated h) w
+
+-- 13 bits that all 64 of a hash go into
+abbrev pub mixed : ℕ → ℕ
+mixed h = bitXor (h % 2 ^ 32 * 2654435761) (h / 2 ^ 32 * 3266489917)
 
 unfoldable pub markOf : ℕ → ℕ
-markOf h = stir h 0 / 1048576
+markOf h = bitXor (mixed h) (mixed h / 2 ^ 32) % 2 ^ 32 * 2654435761 / 2 ^ 22 % 2 ^ 13
 
+-- a key's mark, by its first and its last word
 unfoldable pub keyMark : List ℕ → ℕ
-keyMark key = markOf (stir (stir 0 (number (part key 56 4))) (number (part key 60 4)))
+keyMark key = markOf (withWord (word (part key 0 8)) (word (part key 56 8)))
 
-unfoldable pub nameSeed : List ℕ → ℕ
-nameSeed name = cond (ltb (length name) 4) (length name) (stir (length name) (number (part name (length name - 4) 4)))
+-- the hash of the first n words
+unfoldable pub wordsHash : List ℕ → ℕ → ℕ
+wordsHash s zero = 0
+wordsHash s (suc n) = withWord (wordsHash s n) (word (part s (8 * n) 8))
 
--- the first n words of the name stirred in
-unfoldable pub nameHash : List ℕ → ℕ → ℕ
-nameHash name zero = nameSeed name
-nameHash name (suc n) = stir (nameHash name n) (number (part name (4 * n) 4))
+-- a name and the zeros behind it
+abbrev pub padded : List ℕ → List ℕ
+padded name = name ++ replicate (256 - length name) 0
 
+-- a name's mark, by the words that it stands in
 unfoldable pub nameMark : List ℕ → ℕ
-nameMark name = markOf (nameHash name (length name / 4))
+nameMark name = markOf (wordsHash (padded name) (length name / 8 + 1))

@@ -1,3 +1,4 @@
 pub mod Clocks
 pub mod Hashes
 pub mod Marked
+pub mod SeenMarks

@@ -48,7 +48,7 @@ pub fn same_key(s: &[u8], r: &[u8]) -> bool
         return false;
     }
     let key = slots::key(r);
-    octets::same_at(s, KEY_AT, key)
+    octets::same_64_at(s, KEY_AT, key)
 }
 
 // Whether a slot before this one has its key.

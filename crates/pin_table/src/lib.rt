@@ -5,5 +5,6 @@ pub mod links;
 pub mod marks;
 pub mod minutes;
 pub mod name_rules;
+pub mod seen_marks;
 pub mod slots;
 pub mod sound;

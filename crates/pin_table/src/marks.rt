@@ -1,84 +1,67 @@
-// No key and no name twice. Each used slot has a mark, a number below 4,096 that equal keys and equal names share; only where a
+// No key and no name twice. Each used slot has a mark, a number below 8,192 that equal keys and equal names share; only where a
 // mark was seen before is the slot compared with all before it. So the answer is the same whatever the marks are, and a table
 // whose marks differ takes one pass.
 use crate::key_rules;
 use crate::name_rules;
+use crate::seen_marks;
+use crate::seen_marks::SEEN_WORDS;
 use crate::slots;
 use crate::slots::KEY_SLOTS;
 use crate::slots::KeySlot;
-use crate::slots::NAME_AT;
 use crate::slots::NAME_SLOTS;
 use crate::slots::NameSlot;
 ghost use mathlib.Core.Path.{_≡_};
+ghost use mathlib.Core.Bool.{true};
 ghost use Prim.Native.Nat.{_<_};
 ghost use lib.ListN.{length};
 ghost use Rattle.pin_model.specs.Layout.{areaLength};
-ghost use Rattle.pin_model.specs.Sound.{keyIn, nameIn, keysDistinct, namesDistinct};
-ghost use Rattle.pin_table.specs.Hashes.{stir, markOf, keyMark, nameSeed, nameMark};
+ghost use Rattle.pin_model.specs.Sound.{keyIn, nameIn, nameFormed, keysDistinct, namesShaped, namesDistinct};
+ghost use Rattle.pin_table.specs.Hashes.{withWord, markOf, keyMark, nameMark};
 
-const MARKS: usize = 4096;
-
-// How many words of 32 bits there are.
-const WORDS: usize = 4294967296;
-
-const WORDS_TO_A_MARK: usize = WORDS / MARKS;
-
-// A word as a wider number, so that callers prove no cast.
-fn wide(word: u32) -> usize
-    ensures { λ r. ⌜ (r ≡ word) × (r < 4294967296) ⌝ }
+// A hash with one word more: it is rotated by 13 places first, which compiles to one instruction. 2251799813685248 is 2 to the
+// 51st.
+fn with_word(h: u64, word: u64) -> u64
+    ensures { λ r. ⌜ r ≡ withWord h word ⌝ }
 {
-    word as usize
+    let rotated = h % 2251799813685248 * 8192 + h / 2251799813685248;
+    rotated ^ word
 }
 
-// A hash of 32 bits with one more word in it. The product's halves are added, so that each bit goes into every other.
-fn stirred(h: usize, word: u32) -> usize
-    requires { ⌜ h < 4294967296 ⌝ }
-    ensures { λ r. ⌜ (r ≡ stir h word) × (r < 4294967296) ⌝ }
+// Thirteen bits that all 64 of a hash go into: two products of 32 bits each, folded, and one more. 4294967296 is 2 to the 32nd,
+// 4194304 to the 22nd.
+fn mark_of(h: u64) -> usize
+    ensures { λ r. ⌜ (r ≡ markOf h) × (r < 8192) ⌝ }
 {
-    let product = h * 2654435761 + wide(word);
-    (product / WORDS + product % WORDS) % WORDS
+    let low = h % 4294967296 * 2654435761;
+    let high = h / 4294967296 * 3266489917;
+    let both = low ^ high;
+    let folded = both ^ (both / 4294967296);
+    (folded % 4294967296 * 2654435761 / 4194304 % 8192) as usize
 }
 
-// The highest 12 bits.
-fn mark_of(h: usize) -> usize
-    requires { ⌜ h < 4294967296 ⌝ }
-    ensures { λ r. ⌜ (r ≡ markOf h) × (r < 4096) ⌝ }
-{
-    stirred(h, 0) / WORDS_TO_A_MARK
-}
-
-// By the key's last eight bytes, since keys may begin alike.
+// By the key's first word and its last.
 fn key_mark(s: &[u8]) -> usize
     requires { ⌜ length (now s) ≡ 72 ⌝ }
-    ensures { λ r. ⌜ (r ≡ keyMark (keyIn (now (s .entry)))) × (r < 4096) ⌝ }
+    ensures { λ r. ⌜ (r ≡ keyMark (keyIn (now (s .entry)))) × (r < 8192) ⌝ }
 {
-    let h = stirred(0, octets::u32_at(s, 64));
-    mark_of(stirred(h, octets::u32_at(s, 68)))
+    let key = slots::key(s);
+    let first = octets::word_at(key, 0);
+    let last = octets::word_at(key, 56);
+    mark_of(with_word(first, last))
 }
 
-// A name's length and its last four bytes.
-fn name_seed(s: &[u8]) -> usize
-    requires { ⌜ length (now s) ≡ 272 ⌝ }
-    ensures { λ r. ⌜ (r ≡ nameSeed (nameIn (now (s .entry)))) × (r < 4294967296) ⌝ }
+// By the words that the name stands in. Zeros fill the last of them, so that equal names have equal words.
+fn name_mark(s: &[u8]) -> usize
+    requires { ⌜ (length (now s) ≡ 272) × (nameFormed (now s) ≡ true) ⌝ }
+    ensures { λ r. ⌜ (r ≡ nameMark (nameIn (now (s .entry)))) × (r < 8192) ⌝ }
 {
     let n = slots::name_length(s);
-    if n < 4 {
-        return n;
-    }
-    stirred(n, octets::u32_at(s, NAME_AT + n - 4))
-}
-
-// By all of the name, four bytes at a time.
-fn name_mark(s: &[u8]) -> usize
-    requires { ⌜ length (now s) ≡ 272 ⌝ }
-    ensures { λ r. ⌜ (r ≡ nameMark (nameIn (now (s .entry)))) × (r < 4096) ⌝ }
-{
-    let words = slots::name_length(s) / 4;
-    let mut h = name_seed(s);
-    let mut i = 0;
-    while i < words {
-        h = stirred(h, octets::u32_at(s, NAME_AT + 4 * i));
-        i += 1;
+    let padded = slots::padded_name(s);
+    let mut h: u64 = 0;
+    let mut at = 0;
+    while at <= n {
+        h = with_word(h, octets::word_at(padded, at));
+        at += 8;
     }
     mark_of(h)
 }
@@ -87,7 +70,7 @@ pub fn keys_distinct(area: &[u8]) -> bool
     requires { ⌜ length (now area) ≡ areaLength ⌝ }
     ensures { λ r. ⌜ r ≡ keysDistinct (now (area .entry)) ⌝ }
 {
-    let mut seen = [0u8; MARKS];
+    let mut seen = [0u64; SEEN_WORDS];
     let mut n = 0;
     while n < KEY_SLOTS {
         let k = n;
@@ -97,8 +80,7 @@ pub fn keys_distinct(area: &[u8]) -> bool
             continue;
         }
         let m = key_mark(s);
-        if seen[m] == 0 {
-            seen[m] = 1;
+        if !seen_marks::add(&mut seen, m) {
             continue;
         }
         if key_rules::key_twice(area, KeySlot(k)) {
@@ -109,10 +91,10 @@ pub fn keys_distinct(area: &[u8]) -> bool
 }
 
 pub fn names_distinct(area: &[u8]) -> bool
-    requires { ⌜ length (now area) ≡ areaLength ⌝ }
+    requires { ⌜ (length (now area) ≡ areaLength) × (namesShaped (now area) ≡ true) ⌝ }
     ensures { λ r. ⌜ r ≡ namesDistinct (now (area .entry)) ⌝ }
 {
-    let mut seen = [0u8; MARKS];
+    let mut seen = [0u64; SEEN_WORDS];
     let mut n = 0;
     while n < NAME_SLOTS {
         let k = n;
@@ -122,8 +104,7 @@ pub fn names_distinct(area: &[u8]) -> bool
             continue;
         }
         let m = name_mark(s);
-        if seen[m] == 0 {
-            seen[m] = 1;
+        if !seen_marks::add(&mut seen, m) {
             continue;
         }
         if name_rules::name_twice(area, NameSlot(k)) {

@@ -36,11 +36,8 @@ pub fn name_formed(s: &[u8]) -> bool
     requires { ⌜ length (now s) ≡ 272 ⌝ }
     ensures { λ r. ⌜ r ≡ nameFormed (now (s .entry)) ⌝ }
 {
-    if !host_name::well_formed(slots::name(s)) {
-        return false;
-    }
     let n = slots::name_length(s);
-    octets::zeros_at(s, NAME_AT + n, 256 - n)
+    padded_name::well_formed(slots::padded_name(s), n)
 }
 
 // All rules of a used slot by itself.

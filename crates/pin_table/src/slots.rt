@@ -4,6 +4,7 @@ use crate::minutes::Minutes;
 ghost use mathlib.Core.Path.{_≡_};
 ghost use Prim.Native.Nat.{_<_};
 ghost use lib.ListN.{length};
+ghost use Rattle.octets.specs.Octets.{part};
 ghost use Rattle.pin_model.specs.Layout.{areaLength};
 ghost use Rattle.pin_model.specs.Sound.{latestIn, keySlot, nameSlot, isUsed, keyIn, keyNumber, nameLength, initialIn, endIn, nameIn};
 
@@ -119,4 +120,12 @@ pub fn name(s: &[u8]) -> &[u8]
 {
     let end = NAME_AT + name_length(s);
     &s[NAME_AT..end]
+}
+
+// The name and the zeros behind it.
+pub fn padded_name(s: &[u8]) -> &[u8]
+    requires { ⌜ length (now s) ≡ 272 ⌝ }
+    ensures { λ r. ⌜ (now r ≡ part (now (s .entry)) 16 256) × (length (now r) ≡ 256) ⌝ }
+{
+    &s[NAME_AT..NAME_SLOT_LENGTH]
 }

@@ -1,6 +1,6 @@
 -- The loop's invariant: the greatest of the first i bytes is zero exactly when each of them is.
 use mathlib.Core.Path.{_≡_, refl}
-use Prim.Native.Nat.{ℕ, _+_, _-_, _≤_, _<_}
+use Prim.Native.Nat.{ℕ, _+_, _-_, _≤_, _<_, max}
 use native.Mathlib.Omega.{arith}
 use lib.ListN.{getD}
 use borrow.Author.Needs.{needs}
@@ -37,9 +37,7 @@ loop-again : tie.Need-loop-again Inv-loop μ-loop
 loop-again c =
     let s = c .before .before .before .before .before .args .s .now in
     let place = c .before .before .before .before .before .args .at + c .before .before .before .loop .i in
-    let above : c .before .before .before .loop .most ≤ c .greater .result = c .greater .ensures .0 in
-    let byte : getD s place 0 ≤ c .greater .result = c .greater .ensures .1 in
-    let most : c .greater .result ≤ c .before .before .before .loop .most + getD s place 0 = c .greater .ensures .2 in (
+    let most : c .greater .result ≡ max (c .before .before .before .loop .most) (getD s place 0) = c .greater .ensures in (
       omega arith,
       (λ e. below-more _ _ (c .before .before .before .loop .inv .1 (omega arith)) (omega arith)),
       (λ h. omega (arith, most, c .before .before .before .loop .inv .2 (λ j l. h j (omega arith)), h (c .before .before .before .loop .i) (omega arith))),

@@ -15,14 +15,14 @@ is-used-requires c κs = search needs
 returns : tie.Need-returns
 returns c = sym (read-unused (key-read _ _ (c .before .before .before .before .before .pre .1) (c .before .before .key-slot .ensures .0)) _ (no (c .before .is-used .ensures) (c .if1 .taken)))
 
-same-at-requires : tie.Need-same-at-requires
-same-at-requires c κs = search needs
+same-64-at-requires : tie.Need-same-64-at-requires
+same-64-at-requires c κs = search needs
 
 returns-2 : tie.Need-returns-2
 returns-2 c =
-    c .same-at .ensures
-    ∙ read-key _ (key-read _ _ (c .before .before .before .before .before .before .pre .1) (c .before .before .before .key-slot .ensures .0)) (c .before .before .before .before .before .before .pre .2) (yes (c .before .before .is-used .ensures) (c .before .if1 .left))
+    c .same-64-at .ensures
+    ∙ read-key _ (key-read _ _ (c .before .before .before .before .before .before .pre .1) (c .before .before .before .key-slot .ensures .0)) (yes (c .before .before .is-used .ensures) (c .before .if1 .left))
 
 pub holds-key-spec : {M : Type 1} → statement M
 holds-key-spec =
-    tie.close (tie.spec key-slot-requires is-used-requires returns same-at-requires returns-2)
+    tie.close (tie.spec key-slot-requires is-used-requires returns same-64-at-requires returns-2)

@@ -1,8 +1,9 @@
 -- Rule by rule, and the keys byte by byte.
-use mathlib.Core.Path.{sym, _∙_}
+use mathlib.Core.Path.{sym, ap, _∙_}
 use borrow.Author.Needs.{needs}
-use Rattle.pin_model.specs.Sound.{sameKey}
-use Rattle.pin_table.proofs.Rules.{no, yes, same-lent}
+use Rattle.octets.specs.Octets.{same}
+use Rattle.pin_model.specs.Sound.{keyIn, sameKey}
+use Rattle.pin_table.proofs.Rules.{no, yes}
 use Rattle.pin_table.proofs.key_rules.same_key.Statement.{statement}
 use Rattle.pin_table.proofs.key_rules.same_key.Tie as tie
 
@@ -23,14 +24,14 @@ returns-2 c = sym (rw (yes (c .before .before .before .is-used .ensures) (c .bef
 key-requires : tie.Need-key-requires
 key-requires c κs = search needs
 
-same-at-requires : tie.Need-same-at-requires
-same-at-requires c κs = search needs
+same-64-at-requires : tie.Need-same-64-at-requires
+same-64-at-requires c κs = search needs
 
 returns-3 : tie.Need-returns-3
 unfolding sameKey
 returns-3 c =
-    c .same-at .ensures
-    ∙ same-lent (c .before .before .before .before .before .before .before .before .args .s .now) _ _ 8 64 (c .before .key .ensures .0) (c .before .key .ensures .1)
+    c .same-64-at .ensures
+    ∙ ap (same (keyIn (c .before .before .before .before .before .before .before .before .args .s .now))) (c .before .key .ensures .0)
     ∙ sym (rw (yes (c .before .before .before .before .before .is-used .ensures) (c .before .before .before .before .if1 .left), yes (c .before .before .before .is-used2 .ensures) (c .before .before .if2 .left)))
 
 pub same-key-spec : {M : Type 1} → statement M
@@ -42,5 +43,5 @@ same-key-spec =
     is-used-requires-2
     returns-2
     key-requires
-    same-at-requires
+    same-64-at-requires
     returns-3)

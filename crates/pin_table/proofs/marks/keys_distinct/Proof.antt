@@ -9,7 +9,7 @@ use Rattle.pin_model.specs.Sound.{keySlot, isUsed, keyIn, sameKey, keyTwice, ke
 use Rattle.pin_table.specs.Hashes.{keyMark}
 use Rattle.octets.proofs.Search.{every-true, every-false}
 use Rattle.pin_table.proofs.Rules.{no}
-use Rattle.pin_table.proofs.Seen.{Apart, none-seen, passed-free, passed-new, passed-seen}
+use Rattle.pin_table.proofs.Seen.{Apart, none-seen, passed-free, passed-used, unseen}
 use Rattle.pin_table.proofs.marks.keys_distinct.Statement.{statement}
 use Rattle.pin_table.proofs.marks.keys_distinct.Tie as tie
 
@@ -40,31 +40,36 @@ loop-again c = (omega arith, passed-free _ _ _ _ _ (c .before .before .before .b
 key-mark-requires : tie.Need-key-mark-requires Inv-loop μ-loop
 key-mark-requires c κs = search needs
 
-array-read-if2 : tie.Need-array-read-if2 Inv-loop μ-loop
-array-read-if2 c = omega (arith, c .before .before .before .before .before .loop .inv .1 .size, c .key-mark .ensures .1)
-
-array-write-seen : tie.Need-array-write-seen Inv-loop μ-loop
-array-write-seen c = omega (arith, c .before .before .before .before .before .before .loop .inv .1 .size, c .before .key-mark .ensures .1)
+add-requires : tie.Need-add-requires Inv-loop μ-loop
+add-requires c κs = search needs
 
 loop-less-2 : tie.Need-loop-less-2 Inv-loop μ-loop
 loop-less-2 c = search needs
 
 loop-again-2 : tie.Need-loop-again-2 Inv-loop μ-loop
-loop-again-2 c = (omega arith, passed-new _ _ _ _ _ (c .before .before .before .before .before .before .loop .inv .1) _ (c .before .key-mark .ensures .0 ∙ ap (λ (s : List ℕ). keyMark (keyIn s)) (c .before .before .before .before .key-slot .ensures .0)) (c .before .key-mark .ensures .1) (c .if2 .taken))
+loop-again-2 c =
+    let loop = c .before .before .before .before .before .before .before .before .loop in
+    let mark = c .before .before .before .key-mark .ensures .0 ∙ ap (λ (s : List ℕ). keyMark (keyIn s)) (c .before .before .before .before .before .before .key-slot .ensures .0) in
+    let once = unseen _ _ _ _ _ (loop .inv .1) _ mark (no (c .before .add .ensures .0) (c .if2 .taken)) in
+    (omega arith, passed-used _ _ _ _ _ (loop .inv .1) _ mark (c .before .before .before .key-mark .ensures .1) once _ (c .before .add .ensures .1))
 
 key-twice-requires : tie.Need-key-twice-requires Inv-loop μ-loop
 key-twice-requires c κs = search needs
 
 returns : tie.Need-returns Inv-loop μ-loop
 unfolding keysDistinct
-returns c = sym (every-false _ _ _ (c .before .before .before .before .before .before .before .loop-test .taken) (ap not (sym (c .before .key-twice .ensures) ∙ c .if3 .taken)))
+returns c = sym (every-false _ _ _ (c .before .before .before .before .before .before .before .before .before .loop-test .taken) (ap not (sym (c .before .key-twice .ensures) ∙ c .if3 .taken)))
 
 loop-less-3 : tie.Need-loop-less-3 Inv-loop μ-loop
 loop-less-3 c = search needs
 
 loop-again-3 : tie.Need-loop-again-3 Inv-loop μ-loop
 unfolding keyTwice sameKey
-loop-again-3 c = (omega arith, passed-seen _ _ _ _ _ (c .before .before .before .before .before .before .before .before .loop .inv .1) _ (c .before .before .before .key-mark .ensures .0 ∙ ap (λ (s : List ℕ). keyMark (keyIn s)) (c .before .before .before .before .before .before .key-slot .ensures .0)) (c .before .before .if2 .left) (sym (c .before .key-twice .ensures) ∙ c .if3 .left))
+loop-again-3 c =
+    let loop = c .before .before .before .before .before .before .before .before .before .before .loop in
+    let mark = c .before .before .before .before .before .key-mark .ensures .0 ∙ ap (λ (s : List ℕ). keyMark (keyIn s)) (c .before .before .before .before .before .before .before .before .key-slot .ensures .0) in
+    let once = sym (c .before .key-twice .ensures) ∙ c .if3 .left in
+    (omega arith, passed-used _ _ _ _ _ (loop .inv .1) _ mark (c .before .before .before .before .before .key-mark .ensures .1) once _ (c .before .before .before .add .ensures .1))
 
 returns-2 : tie.Need-returns-2 Inv-loop μ-loop
 unfolding keysDistinct keyTwice sameKey
@@ -83,8 +88,7 @@ keys-distinct-spec =
     loop-less
     loop-again
     key-mark-requires
-    array-read-if2
-    array-write-seen
+    add-requires
     loop-less-2
     loop-again-2
     key-twice-requires

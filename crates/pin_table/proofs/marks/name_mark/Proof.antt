@@ -1,68 +1,53 @@
--- The loop's invariant: the first i words are in the hash.
-use mathlib.Core.Path.{_≡_, sym, _∙_}
-use Prim.Native.Nat.{_*_, _-_, _≤_, _<_}
-use native.Mathlib.Nat.{le-antisymm}
+-- The loop's invariant: the words before `at` are in the hash.
+use mathlib.Core.Path.{_≡_, _∙_}
+use Prim.Native.Nat.{_+_, _-_, _/_, _%_, _≤_}
 use native.Mathlib.Omega.{arith}
 use borrow.Author.Needs.{needs}
-use Rattle.pin_model.specs.Sound.{nameLength, nameIn}
-use Rattle.pin_table.specs.Hashes.{nameHash}
-use Rattle.pin_table.proofs.Rules.{name-sized}
-use Rattle.pin_table.proofs.Hashing.{word-in, hash-none, hash-more, mark-end}
+use Rattle.pin_table.specs.Hashes.{wordsHash}
+use Rattle.pin_table.proofs.Hashing.{hash-none, hash-more, mark-end}
 use Rattle.pin_table.proofs.marks.name_mark.Statement.{statement}
 use Rattle.pin_table.proofs.marks.name_mark.Tie as tie
 
 abbrev Inv-loop : tie.InvT-loop
-Inv-loop s words h₀ i₀ h i = (i ≤ words) × (h < 4294967296) × (h ≡ nameHash (nameIn s) i)
+Inv-loop s n padded h₀ at₀ h at = (at ≤ n + 8) × (at % 8 ≡ 0) × (h ≡ wordsHash padded (at / 8))
 
 abbrev μ-loop : tie.MeasureT-loop
-μ-loop s words h₀ i₀ h i = words - i
+μ-loop s n padded h₀ at₀ h at = n + 8 - at
 
 name-length-requires : tie.Need-name-length-requires Inv-loop μ-loop
 name-length-requires c κs = search needs
 
-name-seed-requires : tie.Need-name-seed-requires Inv-loop μ-loop
-name-seed-requires c κs = search needs
+padded-name-requires : tie.Need-padded-name-requires Inv-loop μ-loop
+padded-name-requires c κs = search needs
 
 loop-holds : tie.Need-loop-holds Inv-loop μ-loop
-loop-holds c = (omega arith, c .name-seed .ensures .1, c .name-seed .ensures .0 ∙ sym (hash-none _))
+loop-holds c = (omega arith, omega arith, hash-none _)
 
-mul-u32-at : tie.Need-mul-u32-at Inv-loop μ-loop
-mul-u32-at c = search needs
+word-at-requires : tie.Need-word-at-requires Inv-loop μ-loop
+word-at-requires c κs = search needs
 
-add-u32-at : tie.Need-add-u32-at Inv-loop μ-loop
-add-u32-at c = search needs
+with-word-requires : tie.Need-with-word-requires Inv-loop μ-loop
+with-word-requires c κs = search needs
 
-u32-at-requires : tie.Need-u32-at-requires Inv-loop μ-loop
-u32-at-requires c κs = search needs
-
-stirred-requires : tie.Need-stirred-requires Inv-loop μ-loop
-stirred-requires c κs = search needs
-
-add-i : tie.Need-add-i Inv-loop μ-loop
-add-i c = search needs
+add-at : tie.Need-add-at Inv-loop μ-loop
+add-at c = search needs
 
 loop-less : tie.Need-loop-less Inv-loop μ-loop
 loop-less c = search needs
 
 loop-again : tie.Need-loop-again Inv-loop μ-loop
-loop-again c = (
-  omega arith,
-  c .stirred .ensures .1,
-  c .stirred .ensures .0
-      ∙ hash-more (nameIn (c .before .before .before .before .before .before .before .args .s .now)) _ _ (c .before .before .before .loop .i) (c .before .before .before .loop .inv .2)
-      (c .before .u32-at .ensures ∙ word-in (c .before .before .before .before .before .before .before .args .s .now) 16 (nameLength (c .before .before .before .before .before .before .before .args .s .now)) (4 * c .before .before .before .loop .i) _ (omega arith) (omega arith) (omega arith)),
-)
+loop-again c =
+    let turn = c .before .before .before .loop in
+    (omega arith, omega arith, c .with-word .ensures ∙ hash-more _ _ _ (turn .at) (turn .inv .1) (turn .inv .2) (c .before .word-at .ensures))
 
 mark-of-requires : tie.Need-mark-of-requires Inv-loop μ-loop
 mark-of-requires c κs = search needs
 
 returns : tie.Need-returns Inv-loop μ-loop
 returns c =
-    let short : nameLength (c .before .before .before .before .before .before .args .s .now) < 256 = omega arith in (
-      c .mark-of .ensures .0
-          ∙ mark-end _ _ (c .before .before .before .before .name-length .ensures .0 ∙ sym (name-sized (c .before .before .before .before .before .before .args .s .now) (c .before .before .before .before .before .before .pre) short)) _ _ (c .before .before .loop .inv .2) (le-antisymm (c .before .before .loop .inv .0) (c .before .loop-test .left)),
-      c .mark-of .ensures .1,
-    )
+    let o = c .before .before .before .before .before .before in
+    let end = c .before .before .loop in
+    (c .mark-of .ensures .0 ∙ mark-end (o .args .s .now) (o .pre .0) (omega arith) (o .pre .1) _ _ (end .at) (c .before .before .before .padded-name .ensures .0) (end .inv .2) (omega arith), c .mark-of .ensures .1)
 
 pub name-mark-spec : {M : Type 1} → statement M
 name-mark-spec =
@@ -71,13 +56,11 @@ name-mark-spec =
     Inv-loop
     μ-loop
     name-length-requires
-    name-seed-requires
+    padded-name-requires
     loop-holds
-    mul-u32-at
-    add-u32-at
-    u32-at-requires
-    stirred-requires
-    add-i
+    word-at-requires
+    with-word-requires
+    add-at
     loop-less
     loop-again
     mark-of-requires

@@ -5,11 +5,12 @@ use mathlib.Core.List.{List}
 use Prim.Native.Nat.{ℕ, _-_, _≤_}
 use native.Mathlib.Omega.{arith}
 use borrow.Author.Needs.{needs}
-use Rattle.pin_model.specs.Sound.{nameSlot, isUsed, nameIn, sameName, nameTwice, namesDistinct}
+use Rattle.pin_model.specs.Sound.{nameSlot, isUsed, nameIn, nameFormed, sameName, nameTwice, namesDistinct}
 use Rattle.pin_table.specs.Hashes.{nameMark}
 use Rattle.octets.proofs.Search.{every-true, every-false}
-use Rattle.pin_table.proofs.Rules.{no}
-use Rattle.pin_table.proofs.Seen.{Apart, none-seen, passed-free, passed-new, passed-seen}
+use Rattle.pin_table.proofs.Rules.{no, yes}
+use Rattle.pin_table.proofs.Hashing.{used-formed}
+use Rattle.pin_table.proofs.Seen.{Apart, none-seen, passed-free, passed-used, unseen}
 use Rattle.pin_table.proofs.marks.names_distinct.Statement.{statement}
 use Rattle.pin_table.proofs.marks.names_distinct.Tie as tie
 
@@ -38,33 +39,42 @@ loop-again : tie.Need-loop-again Inv-loop μ-loop
 loop-again c = (omega arith, passed-free _ _ _ _ _ (c .before .before .before .before .loop .inv .1) (ap isUsed (sym (c .before .before .name-slot .ensures .0)) ∙ no (c .before .is-used .ensures) (c .if1 .taken)))
 
 name-mark-requires : tie.Need-name-mark-requires Inv-loop μ-loop
-name-mark-requires c κs = search needs
+name-mark-requires c κs =
+    let o = c .before .before .before .before .before .before in
+    let slot = c .before .before .name-slot .ensures in
+    let used = ap isUsed (sym (slot .0)) ∙ yes (c .before .is-used .ensures) (c .if1 .left) in
+    (search needs, ap nameFormed (slot .0) ∙ used-formed (o .args .area .now) _ (o .pre .1) (c .before .before .before .loop-test .taken) used)
 
-array-read-if2 : tie.Need-array-read-if2 Inv-loop μ-loop
-array-read-if2 c = omega (arith, c .before .before .before .before .before .loop .inv .1 .size, c .name-mark .ensures .1)
-
-array-write-seen : tie.Need-array-write-seen Inv-loop μ-loop
-array-write-seen c = omega (arith, c .before .before .before .before .before .before .loop .inv .1 .size, c .before .name-mark .ensures .1)
+add-requires : tie.Need-add-requires Inv-loop μ-loop
+add-requires c κs = search needs
 
 loop-less-2 : tie.Need-loop-less-2 Inv-loop μ-loop
 loop-less-2 c = search needs
 
 loop-again-2 : tie.Need-loop-again-2 Inv-loop μ-loop
-loop-again-2 c = (omega arith, passed-new _ _ _ _ _ (c .before .before .before .before .before .before .loop .inv .1) _ (c .before .name-mark .ensures .0 ∙ ap (λ (s : List ℕ). nameMark (nameIn s)) (c .before .before .before .before .name-slot .ensures .0)) (c .before .name-mark .ensures .1) (c .if2 .taken))
+loop-again-2 c =
+    let loop = c .before .before .before .before .before .before .before .before .loop in
+    let mark = c .before .before .before .name-mark .ensures .0 ∙ ap (λ (s : List ℕ). nameMark (nameIn s)) (c .before .before .before .before .before .before .name-slot .ensures .0) in
+    let once = unseen _ _ _ _ _ (loop .inv .1) _ mark (no (c .before .add .ensures .0) (c .if2 .taken)) in
+    (omega arith, passed-used _ _ _ _ _ (loop .inv .1) _ mark (c .before .before .before .name-mark .ensures .1) once _ (c .before .add .ensures .1))
 
 name-twice-requires : tie.Need-name-twice-requires Inv-loop μ-loop
 name-twice-requires c κs = search needs
 
 returns : tie.Need-returns Inv-loop μ-loop
 unfolding namesDistinct
-returns c = sym (every-false _ _ _ (c .before .before .before .before .before .before .before .loop-test .taken) (ap not (sym (c .before .name-twice .ensures) ∙ c .if3 .taken)))
+returns c = sym (every-false _ _ _ (c .before .before .before .before .before .before .before .before .before .loop-test .taken) (ap not (sym (c .before .name-twice .ensures) ∙ c .if3 .taken)))
 
 loop-less-3 : tie.Need-loop-less-3 Inv-loop μ-loop
 loop-less-3 c = search needs
 
 loop-again-3 : tie.Need-loop-again-3 Inv-loop μ-loop
 unfolding nameTwice sameName
-loop-again-3 c = (omega arith, passed-seen _ _ _ _ _ (c .before .before .before .before .before .before .before .before .loop .inv .1) _ (c .before .before .before .name-mark .ensures .0 ∙ ap (λ (s : List ℕ). nameMark (nameIn s)) (c .before .before .before .before .before .before .name-slot .ensures .0)) (c .before .before .if2 .left) (sym (c .before .name-twice .ensures) ∙ c .if3 .left))
+loop-again-3 c =
+    let loop = c .before .before .before .before .before .before .before .before .before .before .loop in
+    let mark = c .before .before .before .before .before .name-mark .ensures .0 ∙ ap (λ (s : List ℕ). nameMark (nameIn s)) (c .before .before .before .before .before .before .before .before .name-slot .ensures .0) in
+    let once = sym (c .before .name-twice .ensures) ∙ c .if3 .left in
+    (omega arith, passed-used _ _ _ _ _ (loop .inv .1) _ mark (c .before .before .before .before .before .name-mark .ensures .1) once _ (c .before .before .before .add .ensures .1))
 
 returns-2 : tie.Need-returns-2 Inv-loop μ-loop
 unfolding namesDistinct nameTwice sameName
@@ -83,8 +93,7 @@ names-distinct-spec =
     loop-less
     loop-again
     name-mark-requires
-    array-read-if2
-    array-write-seen
+    add-requires
     loop-less-2
     loop-again-2
     name-twice-requires

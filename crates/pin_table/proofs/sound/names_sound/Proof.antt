@@ -12,7 +12,7 @@ returns : tie.Need-returns
 returns c = sym (rw (no (c .before .names-shaped .ensures) (c .if1 .taken)))
 
 names-distinct-requires : tie.Need-names-distinct-requires
-names-distinct-requires c κs = search needs
+names-distinct-requires c κs = (search needs, yes (c .before .names-shaped .ensures) (c .if1 .left))
 
 returns-2 : tie.Need-returns-2
 returns-2 c = sym (rw (yes (c .before .before .before .names-shaped .ensures) (c .before .before .if1 .left), no (c .before .names-distinct .ensures) (c .if2 .taken)))
