@@ -3,7 +3,7 @@
 use crate::made::{Folder, Night};
 use crate::program::{lent_replay, Program, Run};
 use crate::timing::Timing;
-use compare::make;
+use compare::make::{self, Pins};
 use compare::nights::program;
 use std::fs;
 use std::path::Path;
@@ -85,7 +85,7 @@ pub fn report(repeats: usize, calls: usize) -> Result<(), String> {
     let folder = Folder::new()?;
     let few = folder.night("few.bin", make::few(calls as u64, SEED))?;
     measure("a night of four names", repeats, &few, &folder)?;
-    let full = folder.night("full.bin", make::full(calls as u64 / 10, SEED))?;
+    let full = folder.night("full.bin", make::full(Pins::ALIKE, calls as u64 / 10, SEED))?;
     measure("a night on a full table", repeats, &full, &folder)
 }
 

@@ -38,10 +38,15 @@ impl Timing {
 
 impl fmt::Display for Timing {
     fn fmt(&self, f: &mut fmt::Formatter<'_>) -> fmt::Result {
-        let rounded = |time: f64| (100.0 * time).round() / 100.0 + 0.0;
-        let [median, least, most] = [self.median(), self.least(), self.most()].map(rounded);
-        f.pad(&format!("{median:.2} ({least:.2} to {most:.2})"))
+        let [median, least, most] = [self.median(), self.least(), self.most()].map(in_hundredths);
+        f.pad(&format!("{median} ({least} to {most})"))
     }
+}
+
+/// With two places behind the point; a small time below 0 is 0.00.
+pub fn in_hundredths(time: f64) -> String {
+    let rounded = (100.0 * time).round() / 100.0 + 0.0;
+    format!("{rounded:.2}")
 }
 
 /// Times each job, which makes so many calls, in turn and again, so that a slow moment of the machine meets all of them.

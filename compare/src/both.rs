@@ -2,7 +2,20 @@
 
 use crate::area;
 use crate::call::{Answer, By, Call};
+use tack::raw;
 use tack::table::{Refusal, Verdict};
+
+/// Whether both find the table sound: the library then refuses the empty name with 12, and before it a damaged table with 11.
+pub fn is_sound(table: &[u8]) -> Result<bool, String> {
+    let (proved, second) = (raw::inspect(table, b"", 0).number, second::is_sound(table));
+    match (proved, second) {
+        (12, true) => Ok(true),
+        (11, false) => Ok(false),
+        _ => Err(format!(
+            "soundness differs: proved answers {proved}, second finds it sound: {second}"
+        )),
+    }
+}
 
 /// Runs the call by both and compares every field of the answer and every byte of the table, which is left as both left it.
 pub fn call(table: &mut [u8], call: &Call) -> Result<Answer, String> {

@@ -5,7 +5,7 @@ use std::time::{Duration, Instant};
 /// When a run is long enough.
 #[derive(Clone, Copy)]
 pub enum Length {
-    /// So many extensions and names, and half as many calls on tables.
+    /// So many extensions and names, and half as many calls on tables; slots of tables come beside them.
     Inputs(u64),
     Minutes(u64),
 }
@@ -15,7 +15,10 @@ pub struct Progress {
     length: Length,
     began: Instant,
     said: Duration,
+    /// Extensions and names.
     pub inputs: u64,
+    /// Slots of tables. A run has so many that hardly an extension or a name would come if it ended by the sum of both.
+    pub slots: u64,
     pub calls: u64,
     pub nights: u64,
 }
@@ -27,6 +30,7 @@ impl Progress {
             began: Instant::now(),
             said: Duration::ZERO,
             inputs: 0,
+            slots: 0,
             calls: 0,
             nights: 0,
         }
@@ -44,12 +48,19 @@ impl Progress {
         if elapsed >= self.said + Duration::from_secs(2) {
             self.said = elapsed;
             let of = match self.length {
-                Length::Inputs(inputs) => format!("of {inputs} and {}", inputs / 2),
+                Length::Inputs(inputs) => format!("of {inputs} other inputs and {}", inputs / 2),
                 Length::Minutes(minutes) => format!("of {minutes} minutes"),
             };
-            let (inputs, calls, nights) = (self.inputs, self.calls, self.nights);
-            let seconds = elapsed.as_secs();
-            eprintln!("{inputs} inputs, {calls} calls and {nights} nights, {seconds} s, {of}");
+            eprintln!("{}, {} s, {of}", self.counts(), elapsed.as_secs());
         }
+    }
+
+    /// Slots of tables are inputs too.
+    pub fn counts(&self) -> String {
+        let (slots, calls, nights) = (self.slots, self.calls, self.nights);
+        let inputs = self.inputs + slots;
+        format!(
+            "{inputs} inputs, {slots} of them slots of tables, {calls} calls and {nights} nights"
+        )
     }
 }

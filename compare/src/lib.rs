@@ -1,11 +1,13 @@
 //! The proved library and programs beside the second program: the same inputs for both, and what is done with the answers.
 //!
 //! * [`extensions`], [`names`], [`tables`], [`lists`]: calls of the library, compared by the program `compare`.
+//! * [`padded_names`], [`alike`]: names and keys in the slots of small tables, compared by it too.
 //! * [`nights`]: whole nights of recorded calls, by the proved program and the second one, compared by it too.
 //! * [`make`]: the maker of nights, also for the program `make_night` and for timing.
 //! * [`spelling`]: names in letters of either case, which every part above mixes.
 //! * [`wire`], [`record`], [`area`]: the bytes of extensions, recorded calls and tables, without the help of either program.
 
+pub mod alike;
 pub mod area;
 pub mod both;
 pub mod call;
@@ -15,11 +17,15 @@ pub mod extensions;
 pub mod length;
 pub mod lists;
 pub mod make;
+pub mod marks;
 pub mod names;
 pub mod nights;
+pub mod padded_names;
+pub mod plain_names;
 pub mod pool;
 pub mod random;
 pub mod record;
+pub mod small_tables;
 pub mod sound;
 pub mod spelling;
 pub mod spoil;

@@ -1,36 +1,43 @@
 //! Runs the proved library and the second program on the same calls and compares every answer and every byte; runs the
 //! proved program that replays a night, and the second one, on the same nights and compares every line.
 //!
-//! * `compare`: 200,000 extensions and names, 100,000 calls on tables, and some hundred nights.
-//! * `compare INPUTS [SEED]`: so many extensions and names, half as many calls, and some more nights with them.
+//! * `compare`: 200,000 extensions and names, some hundred thousand slots of tables, 100,000 calls on tables, and some hundred
+//!   nights.
+//! * `compare INPUTS [SEED]`: so many extensions and names, half as many calls, and some more slots and nights with them.
 //! * `compare --minutes MINUTES [SEED]`: for so long.
 //! * `compare --nights NIGHTS [SEED]`: nights alone, every kind of them and so many at least.
 //!
 //! Names come in any spelling, and each program must take one with capitals as it takes the same name in small letters.
 //!
 //! The proved program is `target/bin/replay`, unless `REPLAY_PROGRAM` names another. The comparison ends with status 1 at the
-//! first difference, or if a number, a spelling, an age of a pin, a kind of damage, of full table or of night never came.
+//! first difference, or if a number, a spelling, an age of a pin, a kind of name field, of damage, of full table or of night
+//! never came.
 
 use compare::length::{Length, Progress};
 use compare::nights::Nights;
+use compare::padded_names::PaddedNames;
 use compare::random::Random;
-use compare::{extensions, lists, names, tables};
+use compare::{alike, extensions, lists, names, tables};
 use std::process::ExitCode;
 
 /// Everything that is compared.
 struct Comparison {
     extensions: extensions::Extensions,
     names: names::Names,
+    padded_names: PaddedNames,
+    alike: alike::Alike,
     tables: tables::Tables,
     lists: lists::Lists,
     nights: Nights,
 }
 
 impl Comparison {
-    fn new(nights: Nights) -> Comparison {
+    fn new(nights: Nights, seed: u64) -> Comparison {
         Comparison {
             extensions: extensions::Extensions::default(),
             names: names::Names::default(),
+            padded_names: PaddedNames::new(seed),
+            alike: alike::Alike::default(),
             tables: tables::Tables::default(),
             lists: lists::Lists::default(),
             nights,
@@ -40,6 +47,7 @@ impl Comparison {
     /// What every run begins with, however short.
     fn edges(&mut self, random: &mut Random, progress: &mut Progress) -> Result<(), String> {
         progress.inputs += self.extensions.edges(random)? + self.names.edges()?;
+        progress.slots += self.padded_names.edges()? + self.alike.edges()?;
         progress.calls += self.tables.edges(random)?;
         for _ in 0..20 {
             progress.calls += self.lists.list(random)?;
@@ -50,7 +58,7 @@ impl Comparison {
         Ok(())
     }
 
-    /// A list of calls, some tables, twice as many extensions and names, and a night.
+    /// A list of calls, some tables, twice as many extensions and names, with name fields beside them, and a night.
     fn round(&mut self, random: &mut Random, progress: &mut Progress) -> Result<(), String> {
         progress.calls += self.lists.list(random)?;
         for _ in 0..5 {
@@ -58,6 +66,7 @@ impl Comparison {
         }
         while progress.inputs < 2 * progress.calls {
             progress.inputs += self.extensions.case(random)? + self.names.case(random)?;
+            progress.slots += self.padded_names.case()?;
         }
         progress.nights += self.nights.case()?;
         progress.say();
@@ -67,6 +76,8 @@ impl Comparison {
     fn finish(&self) -> Result<(), String> {
         self.extensions.finish()?;
         self.names.finish()?;
+        self.padded_names.finish()?;
+        self.alike.finish()?;
         self.tables.finish()?;
         self.lists.finish()?;
         self.nights.finish()
@@ -99,7 +110,7 @@ fn nights_alone(mut nights: Nights, count: u64, seed: u64) -> Result<(), String>
 
 fn everything(nights: Nights, length: Length, seed: u64) -> Result<(), String> {
     let mut random = Random::new(seed);
-    let mut comparison = Comparison::new(nights);
+    let mut comparison = Comparison::new(nights, seed);
     let mut progress = Progress::new(length);
     comparison.edges(&mut random, &mut progress)?;
     loop {
@@ -108,8 +119,7 @@ fn everything(nights: Nights, length: Length, seed: u64) -> Result<(), String> {
             break;
         }
     }
-    let (inputs, calls, nights) = (progress.inputs, progress.calls, progress.nights);
-    println!("{inputs} inputs, {calls} calls and {nights} nights, seed {seed}: no difference");
+    println!("{}, seed {seed}: no difference", progress.counts());
     comparison.finish()
 }
 

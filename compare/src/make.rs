@@ -2,12 +2,16 @@
 
 mod few;
 mod full;
+mod pins;
 mod random;
 pub mod stories;
+mod without_extensions;
 
 pub use few::few;
-pub use full::{confirming, full, FILLING};
+pub use full::{full, FILLING};
+pub use pins::Pins;
 pub use random::random;
+pub use without_extensions::without_extensions;
 
 use crate::area::Key;
 use crate::call::Connection;

@@ -1,9 +1,11 @@
-//! Names and keys by number, in families that are alike where a careless comparison would stop or go on too long.
+//! Names and keys by number, in families that are alike where a careless comparison would stop or go on too long, or that share
+//! a mark.
 
 use crate::area::Key;
+use crate::marks;
 
-pub const NAME_FAMILIES: usize = 7;
-pub const KEY_FAMILIES: usize = 5;
+pub const NAME_FAMILIES: usize = 9;
+pub const KEY_FAMILIES: usize = 6;
 
 /// The bytes next to the letters, capital and small: no name has them, and folding leaves them as they are.
 pub const BESIDE_LETTERS: &[u8] = b"@[`{";
@@ -22,7 +24,10 @@ pub fn name(family: usize, number: usize) -> Vec<u8> {
         3 => format!("{digits}{}", long()),
         4 => format!("{}{digits}", long()),
         5 => return one_unlike(number),
-        _ => return self::name(number % 6, number),
+        // They share a mark, of 20 bytes or of 253.
+        6 => return marks::name_of_20(number),
+        7 => return marks::name_of_253(number),
+        _ => return self::name(number % 8, number),
     };
     name.into_bytes()
 }
@@ -55,11 +60,13 @@ pub fn key(family: usize, number: usize) -> Key {
             key[31] = byte;
         }
         // Each differs from the first in one byte, at any place.
-        _ => {
+        4 => {
             if let Some(index) = number.checked_sub(1) {
                 key[index % 64] = 1 + (index / 64) as u8;
             }
         }
+        // They share a mark.
+        _ => return marks::key(number),
     }
     key
 }

@@ -2,7 +2,8 @@
 
 use compare::area::{Area, KEY_SLOTS, NAME_SLOTS};
 use compare::call::Connection;
-use compare::make::{self, stories};
+use compare::make::{self, stories, Pins};
+use compare::marks;
 use std::collections::BTreeSet;
 
 const NIGHT: &[u8] = include_bytes!("../../samples/night.bin");
@@ -70,9 +71,20 @@ fn slots_used(night: impl Iterator<Item = Connection>) -> (usize, usize) {
 
 #[test]
 fn a_full_table_is_full_and_stays_full() {
-    let full = (NAME_SLOTS, KEY_SLOTS);
-    assert_eq!(slots_used(make::full(0, 1)), full);
-    assert_eq!(slots_used(make::full(2_000, 1)), full);
+    let sharing_marks = Pins {
+        name: marks::name_of_20,
+        key: marks::key,
+    };
+    for pins in [Pins::ALIKE, sharing_marks] {
+        let full = (NAME_SLOTS, KEY_SLOTS);
+        assert_eq!(slots_used(make::full(pins, 0, 1)), full);
+        assert_eq!(slots_used(make::full(pins, 2_000, 1)), full);
+    }
+}
+
+#[test]
+fn calls_without_an_extension_leave_no_record() {
+    assert_eq!(slots_used(make::without_extensions(500, 1)), (0, 0));
 }
 
 #[test]

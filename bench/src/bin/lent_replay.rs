@@ -3,10 +3,11 @@
 //!
 //! * `lent_replay judge`: the proved library's `judge`, which checks the 39,432 bytes in every call.
 //! * `lent_replay second-judge`: the second program's, which parses and writes them in every call.
-//! * `lent_replay PART`: behind the calls that fill the table, in place of every call, a part alone; the report has the total only.
-//!   `check` and `second-check` are the soundness checks, `read` is the bare read of the table, `nothing` is nothing. The check up
-//!   to one of its rules is that of a table which breaks this rule in the last slot: `head`, `keys-shaped`, `keys-distinct`,
-//!   `names-shaped`, `names-distinct`, `names-keyed`; behind them only 'each key has a name' is left.
+//! * `lent_replay PART`: behind the first 256 calls, which fill the table unless they bring no extension, a part alone in place of
+//!   every call; the report has the total only. `check` and `second-check` are the soundness checks, `read` is the bare read of the
+//!   table, `nothing` is nothing. The check up to one of its rules is that of a full table which breaks this rule in the last slot:
+//!   `head`, `keys-shaped`, `keys-distinct`, `names-shaped`, `names-distinct`, `names-keyed`; behind them only 'each key has a name'
+//!   is left.
 
 use bench::bare_read;
 use compare::area::{Area, KEY_SLOTS, NAME_SLOTS};

@@ -1,46 +1,13 @@
 //! What a call costs a program, by time and by instructions.
 
-use crate::made::Night;
-use crate::program::Program;
 use crate::timing::Timing;
 use std::fmt;
-use std::fs;
-use std::path::{Path, PathBuf};
-
-/// A program on a night, and what one of its calls costs, once it is measured.
-pub struct Line<'a> {
-    pub name: String,
-    program: Program,
-    night: &'a Night,
-    /// Whether its report must be that of the others on this night.
-    judges: bool,
-    pub cost: Cost,
-}
-
-impl<'a> Line<'a> {
-    pub fn judging(name: impl Into<String>, program: Program, night: &'a Night) -> Line<'a> {
-        Line {
-            name: name.into(),
-            program,
-            night,
-            judges: true,
-            cost: Cost::default(),
-        }
-    }
-
-    pub fn part(name: impl Into<String>, program: Program, night: &'a Night) -> Line<'a> {
-        Line {
-            judges: false,
-            ..Line::judging(name, program, night)
-        }
-    }
-}
 
 /// The microseconds of a call in each repeat, and its instructions.
 #[derive(Default)]
 pub struct Cost {
-    microseconds: Vec<f64>,
-    instructions: f64,
+    pub microseconds: Vec<f64>,
+    pub instructions: f64,
 }
 
 impl Cost {
@@ -53,19 +20,7 @@ impl Cost {
         }
     }
 
-    pub fn scaled(&self, factor: f64) -> Cost {
-        let scaled = self.microseconds.iter().map(|time| time * factor);
-        Cost {
-            microseconds: scaled.collect(),
-            instructions: self.instructions * factor,
-        }
-    }
-
-    pub fn instructions(&self) -> f64 {
-        self.instructions
-    }
-
-    fn timing(&self) -> Timing {
+    pub fn timing(&self) -> Timing {
         Timing::of(self.microseconds.clone())
     }
 
@@ -84,90 +39,27 @@ impl Cost {
 
 impl fmt::Display for Cost {
     fn fmt(&self, f: &mut fmt::Formatter<'_>) -> fmt::Result {
-        write!(f, "{:<26} {:>12.0}", self.timing(), self.instructions)
+        let instructions = grouped(self.instructions);
+        write!(f, "{:<26} {instructions:>12}", self.timing())
     }
 }
 
-/// Counts the instructions of all lines, and then runs them in turn and again, so that a slow moment of the machine meets all.
-/// What the calls cost that fill the table is taken off.
-pub fn measure(
-    mut lines: Vec<&mut Line>,
-    filling: &Night,
-    repeats: usize,
-    report: &Path,
-) -> Result<(), String> {
-    let count = lines.len();
-    for (index, line) in lines.iter_mut().enumerate() {
-        eprintln!("instructions: {} of {count}", index + 1);
-        line.cost.instructions = instructions(line, filling)?;
-    }
-    let mut reports = Reports::default();
-    for repeat in 1..=repeats {
-        eprintln!("times: repeat {repeat} of {repeats}");
-        for line in &mut lines {
-            let microseconds = microseconds(line, filling, report, &mut reports)?;
-            line.cost.microseconds.push(microseconds);
+/// The nearest whole number, with commas between the thousands.
+pub fn grouped(number: f64) -> String {
+    let nearest = number.round() as i64;
+    let digits = nearest.unsigned_abs().to_string();
+    let mut grouped = String::from(if nearest < 0 { "-" } else { "" });
+    for (place, digit) in digits.chars().enumerate() {
+        if place > 0 && (digits.len() - place).is_multiple_of(3) {
+            grouped.push(',');
         }
+        grouped.push(digit);
     }
-    Ok(())
+    grouped
 }
 
-fn calls(line: &Line, filling: &Night) -> f64 {
-    (line.night.calls - filling.calls) as f64
-}
-
-fn instructions(line: &Line, filling: &Night) -> Result<f64, String> {
-    let whole = line.program.instructions(&line.night.path)?;
-    let before = line.program.instructions(&filling.path)?;
-    Ok((whole as f64 - before as f64) / calls(line, filling))
-}
-
-fn microseconds(
-    line: &Line,
-    filling: &Night,
-    report: &Path,
-    reports: &mut Reports,
-) -> Result<f64, String> {
-    let whole = line.program.replay(&line.night.path, report)?.time;
-    if line.judges {
-        reports.compare(line, report)?;
-    }
-    let before = line.program.replay(&filling.path, report)?.time;
-    let seconds = whole.as_secs_f64() - before.as_secs_f64();
-    Ok(seconds * 1e6 / calls(line, filling))
-}
-
-/// The first report on each night, and whose it was.
-#[derive(Default)]
-struct Reports(Vec<FirstReport>);
-
-struct FirstReport {
-    night: PathBuf,
-    by: String,
-    bytes: Vec<u8>,
-}
-
-impl Reports {
-    fn compare(&mut self, line: &Line, report: &Path) -> Result<(), String> {
-        let bytes = fs::read(report)
-            .map_err(|error| format!("{} cannot be read: {error}", report.display()))?;
-        let night = &line.night.path;
-        match self.0.iter().find(|first| first.night == *night) {
-            Some(first) if first.bytes != bytes => Err(format!(
-                "{} and {} report different things on the night {}",
-                first.by,
-                line.name,
-                night.display()
-            )),
-            Some(_) => Ok(()),
-            None => {
-                self.0.push(FirstReport {
-                    night: night.clone(),
-                    by: line.name.clone(),
-                    bytes,
-                });
-                Ok(())
-            }
-        }
-    }
+#[test]
+fn thousands_are_grouped() {
+    let expected = ["0", "999", "-1,000", "12,346", "1,000,000"];
+    assert_eq!([-0.4, 999.4, -1e3, 12_345.6, 1e6].map(grouped), expected);
 }

@@ -1,9 +1,9 @@
 //! What each rule of the soundness check takes: tables that break one rule in the last slot, in the order of the rules, each
 //! against the one before.
 
-use super::cost::Line;
+use super::line::Line;
+use super::table::Table;
 use super::version::Version;
-use crate::made::Night;
 
 /// The words of `lent_replay`, and what each checks beyond the one before; the last makes the whole check.
 const UP_TO: [(&str, &str); 8] = [
@@ -18,13 +18,16 @@ const UP_TO: [(&str, &str); 8] = [
 ];
 
 pub struct Rules<'a> {
+    pub version: &'static str,
     lines: [Line<'a>; 8],
 }
 
 impl<'a> Rules<'a> {
-    pub fn of(version: &Version, night: &'a Night) -> Rules<'a> {
+    /// Of a version of the proved library, on a full table.
+    pub fn of(version: &Version, table: &'a Table) -> Rules<'a> {
         Rules {
-            lines: UP_TO.map(|(word, beyond)| version.part(beyond, word, night)),
+            version: version.name,
+            lines: UP_TO.map(|(word, beyond)| version.part(beyond, word, table)),
         }
     }
 

@@ -6,7 +6,7 @@
 //! * `make_night full CALLS SEED`: 256 calls that fill the table, and so many calls on it.
 //! * `make_night few CALLS SEED`: so many calls of four names, for timing.
 
-use compare::make::{self, stories};
+use compare::make::{self, stories, Pins};
 use std::io::{self, BufWriter, Write};
 use std::process::ExitCode;
 
@@ -23,7 +23,10 @@ fn write(arguments: &[&str], out: &mut impl Write) -> Result<(), String> {
     let written = match *arguments {
         ["stories"] => make::write(stories::night(), out),
         ["random", calls, seed] => make::write(make::random(number(calls)?, number(seed)?), out),
-        ["full", calls, seed] => make::write(make::full(number(calls)?, number(seed)?), out),
+        ["full", calls, seed] => {
+            let night = make::full(Pins::ALIKE, number(calls)?, number(seed)?);
+            make::write(night, out)
+        }
         ["few", calls, seed] => make::write(make::few(number(calls)?, number(seed)?), out),
         _ => return Err(USAGE.to_string()),
     };

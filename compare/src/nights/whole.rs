@@ -1,7 +1,7 @@
 //! Nights of whole calls.
 
 use crate::call::Connection;
-use crate::make::{self, stories};
+use crate::make::{self, stories, Pins};
 use crate::random::Random;
 use crate::record::{LONGEST_CALL, LONGEST_EXTENSION, LONGEST_NAME};
 use crate::spelling;
@@ -35,14 +35,14 @@ pub fn random(case: usize, random: &mut Random) -> Vec<u8> {
 }
 
 pub fn full(_case: usize, random: &mut Random) -> Vec<u8> {
-    bytes(make::full(300, random.seed()))
+    bytes(make::full(Pins::ALIKE, 300, random.seed()))
 }
 
 /// The bundled night, one on a full table, and random ones; only a name without letters has no capital.
 pub fn every_name_with_capitals(case: usize, random: &mut Random) -> Vec<u8> {
     let mut night: Vec<Connection> = match case % 6 {
         0 => stories::night().collect(),
-        1 => make::full(300, random.seed()).collect(),
+        1 => make::full(Pins::ALIKE, 300, random.seed()).collect(),
         _ => make::random(400, random.seed()).collect(),
     };
     for call in &mut night {
@@ -56,7 +56,7 @@ pub fn long(case: usize, random: &mut Random) -> Vec<u8> {
     let night = match case % 3 {
         0 => bytes(make::few(1_000, random.seed())),
         1 => bytes(make::random(1_500, random.seed())),
-        _ => bytes(make::full(800, random.seed())),
+        _ => bytes(make::full(Pins::ALIKE, 800, random.seed())),
     };
     assert!(night.len() > 200_000, "a long night of {}", night.len());
     night
