@@ -55,7 +55,7 @@ const KINDS: [Kind; 6] = [
     },
     Kind {
         name: "chosen, 20 bytes",
-        holds: "128 names of 20 bytes that share a mark after and differ in the last four, 64 keys that share one and differ in the first eight bytes",
+        holds: "128 names of 20 bytes, of labels of one letter in front, that share a mark after and differ in the last four, 64 keys that share one and differ in the first eight bytes",
         calls: 5_000,
         pins: Some(Pins {
             name: marks::name_of_20,
@@ -64,7 +64,7 @@ const KINDS: [Kind; 6] = [
     },
     Kind {
         name: "chosen, 253 bytes",
-        holds: "128 names of 253 bytes that share a mark after and differ in the last four, 64 keys as those of the table above",
+        holds: "128 names of 253 bytes, of labels of one letter in front, that share a mark after and differ in the last four, 64 keys as those of the table above",
         calls: 2_000,
         pins: Some(Pins {
             name: marks::name_of_253,
