@@ -28,6 +28,14 @@ pub part-add : (b : List ℕ) (at n m : ℕ) → part b at (n + m) ≡ part b at
 unfolding part
 part-add b at n m = take-add n m (drop at b) ∙ ap (λ (l : List ℕ). take n (drop at b) ++ take m l) (drop-drop n at b)
 
+-- the n elements from `at`, as `&s[at..end]` lends them
+pub part-lent : (s : List ℕ) (at n end : ℕ) → end ≡ at + n → at + n ≤ length s
+    → (take (end - at) (drop at s) ≡ part s at n) × (length (take (end - at) (drop at s)) ≡ n)
+unfolding part
+part-lent s at n end e h =
+    let w : end - at ≡ n = omega arith in
+    (ap (λ (m : ℕ). take m (drop at s)) w, rw w (part-length s at n h))
+
 pub put-length : (b : List ℕ) (at : ℕ) (vs : List ℕ) → at + length vs ≤ length b → length (put b at vs) ≡ length b
 unfolding put
 put-length b at vs h = simp (length-append, length-take, length-drop) (omega arith)

@@ -7,7 +7,7 @@ use Prim.Native.Nat.{ℕ, zero, suc, _+_, _-_, _≤_, _<_, max}
 use native.Mathlib.Numerals.{add-one}
 use native.Mathlib.Omega.{arith}
 use lib.Dec.{eqb}
-use lib.ListN.{length, getD, take, drop}
+use lib.ListN.{length, getD}
 use borrow.Author.Tests.{eq-eqb, ne-eqb, eqb-true}
 use Rattle.octets.specs.Octets.{all, part, allZero}
 use Rattle.octets.specs.Search.{every}
@@ -171,8 +171,3 @@ module _ {q : List ℕ} {n m : ℕ} (short : Short q n m) where
 pub none-formed : (q : List ℕ) (n : ℕ) (b : Bool) → n ≡ 0 → (wellFormed (part q 0 n) && b) ≡ false
 unfolding part wellFormed
 none-formed q n b e = rw (e, none-refused) refl
-
--- the first n bytes, as `&padded[0..n]` lends them
-pub front : (q : List ℕ) (n : ℕ) → take (n - 0) (drop 0 q) ≡ part q 0 n
-unfolding part
-front q n = let e : n - 0 ≡ n = omega arith in ap (λ (m : ℕ). take m q) e

@@ -1,10 +1,10 @@
--- What a call's answer says of the rule that it computes, and the parts that slots lend. Assumes nothing.
+-- What a call's answer says of the rule that it computes, and what slots hold. Assumes nothing.
 use mathlib.Core.Path.{_≡_, sym, ap, ap₂, _∙_}
 use mathlib.Core.Bool.{Bool, true, false, not, _&&_}
 use mathlib.Core.List.{List}
-use Prim.Native.Nat.{ℕ, _+_, _-_, _≤_, _<_}
+use Prim.Native.Nat.{ℕ, _-_, _<_}
 use native.Mathlib.Omega.{arith}
-use lib.ListN.{length, take, drop, getD, replicate}
+use lib.ListN.{length, getD, replicate}
 use borrow.Author.Tests.{not-true, not-false}
 use Rattle.octets.specs.Octets.{part, same, allZero}
 use Rattle.octets.proofs.Tests.{is-false}
@@ -21,14 +21,6 @@ no {r} e h = sym e ∙ not-true r h
 
 pub yes : {r d : Bool} → r ≡ d → not r ≡ false → d ≡ true
 yes {r} e h = sym e ∙ not-false r h
-
--- the n bytes from `at`, as `&s[at..end]` lends them
-pub lent : (s : List ℕ) (at n end : ℕ) → end ≡ at + n → at + n ≤ length s
-    → (take (end - at) (drop at s) ≡ part s at n) × (length (take (end - at) (drop at s)) ≡ n)
-unfolding part
-lent s at n end e h =
-    let w : end - at ≡ n = omega arith in
-    (ap (λ (m : ℕ). take m (drop at s)) w, rw w (part-length s at n h))
 
 -- a lent part p, which is q, compared
 pub same-lent : (s p q : List ℕ) (at n : ℕ) → p ≡ q → length p ≡ n → same (part s at (length p)) p ≡ same (part s at n) q

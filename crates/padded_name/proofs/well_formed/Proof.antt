@@ -1,9 +1,11 @@
 -- By the name's length. Assumes nothing.
 use mathlib.Core.Path.{sym, ap, _∙_}
+use native.Mathlib.Omega.{arith}
 use borrow.Author.Tests.{not-true, not-false}
 use borrow.Author.Needs.{needs}
+use Rattle.octets.proofs.Parts.{part-lent}
 use Rattle.host_name.specs.Name.{wellFormed}
-use Rattle.padded_name.proofs.PaddedNames.{none-formed, front}
+use Rattle.padded_name.proofs.PaddedNames.{none-formed}
 use Rattle.padded_name.proofs.well_formed.Statement.{statement}
 use Rattle.padded_name.proofs.well_formed.Tie as tie
 
@@ -37,7 +39,7 @@ well-formed-requires c κs = search needs
 returns-4 : tie.Need-returns-4
 returns-4 c =
     let o = c .before .before .before .before .before .before .before in
-    sym (rw (sym (ap wellFormed (front (o .args .padded .now) (o .args .n))) ∙ sym (c .before .well-formed .ensures) ∙ not-true _ (c .if4 .taken)))
+    sym (rw (sym (ap wellFormed (part-lent (o .args .padded .now) 0 (o .args .n) (o .args .n) (omega arith) (omega arith) .0)) ∙ sym (c .before .well-formed .ensures) ∙ not-true _ (c .if4 .taken)))
 
 sub-zeros-at : tie.Need-sub-zeros-at
 sub-zeros-at c = search needs
@@ -49,7 +51,7 @@ returns-5 : tie.Need-returns-5
 returns-5 c =
     let o = c .before .before .before .before .before .before .before .before in
     c .zeros-at .ensures
-    ∙ sym (rw (sym (ap wellFormed (front (o .args .padded .now) (o .args .n))) ∙ sym (c .before .before .well-formed .ensures) ∙ not-false _ (c .before .if4 .left)))
+    ∙ sym (rw (sym (ap wellFormed (part-lent (o .args .padded .now) 0 (o .args .n) (o .args .n) (omega arith) (omega arith) .0)) ∙ sym (c .before .before .well-formed .ensures) ∙ not-false _ (c .before .if4 .left)))
 
 pub well-formed-spec : {M : Type 1} → statement M
 well-formed-spec =

@@ -3,7 +3,7 @@ use Prim.Native.Nat.{_+_, _*_}
 use native.Mathlib.Omega.{arith}
 use borrow.Author.Needs.{needs}
 use Rattle.pin_model.specs.Sound.{keySlot}
-use Rattle.pin_table.proofs.Rules.{lent}
+use Rattle.octets.proofs.Parts.{part-lent}
 use Rattle.pin_table.proofs.slots.key_slot.Statement.{statement}
 use Rattle.pin_table.proofs.slots.key_slot.Tie as tie
 
@@ -27,7 +27,7 @@ part-result-end c = search needs
 
 returns : tie.Need-returns
 unfolding keySlot
-returns c = lent (c .before .args .area .now) (8 + 72 * c .before .args .k .0) 72 _ (omega arith) (omega arith)
+returns c = part-lent (c .before .args .area .now) (8 + 72 * c .before .args .k .0) 72 _ (omega arith) (omega arith)
 
 pub key-slot-spec : {M : Type 1} → statement M
 key-slot-spec =

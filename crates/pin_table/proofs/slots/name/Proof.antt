@@ -3,7 +3,7 @@ use Prim.Native.Nat.{_+_}
 use native.Mathlib.Omega.{arith}
 use lib.ListN.{getD}
 use borrow.Author.Needs.{needs}
-use Rattle.pin_table.proofs.Rules.{lent}
+use Rattle.octets.proofs.Parts.{part-lent}
 use Rattle.pin_table.proofs.slots.name.Statement.{statement}
 use Rattle.pin_table.proofs.slots.name.Tie as tie
 
@@ -23,7 +23,7 @@ part-result-end : tie.Need-part-result-end
 part-result-end c = search needs
 
 returns : tie.Need-returns
-returns c = lent (c .before .before .before .args .s .now) 16 (getD (c .before .before .before .args .s .now) 2 0) (16 + c .before .name-length .result) (omega arith) (omega arith)
+returns c = part-lent (c .before .before .before .args .s .now) 16 (getD (c .before .before .before .args .s .now) 2 0) (16 + c .before .name-length .result) (omega arith) (omega arith)
 
 pub name-spec : {M : Type 1} → statement M
 name-spec =

@@ -3,7 +3,7 @@ use Prim.Native.Nat.{_+_, _*_}
 use native.Mathlib.Omega.{arith}
 use borrow.Author.Needs.{needs}
 use Rattle.pin_model.specs.Sound.{nameSlot}
-use Rattle.pin_table.proofs.Rules.{lent}
+use Rattle.octets.proofs.Parts.{part-lent}
 use Rattle.pin_table.proofs.slots.name_slot.Statement.{statement}
 use Rattle.pin_table.proofs.slots.name_slot.Tie as tie
 
@@ -27,7 +27,7 @@ part-result-end c = search needs
 
 returns : tie.Need-returns
 unfolding nameSlot
-returns c = lent (c .before .args .area .now) (4616 + 272 * c .before .args .n .0) 272 _ (omega arith) (omega arith)
+returns c = part-lent (c .before .args .area .now) (4616 + 272 * c .before .args .n .0) 272 _ (omega arith) (omega arith)
 
 pub name-slot-spec : {M : Type 1} → statement M
 name-slot-spec =
