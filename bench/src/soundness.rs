@@ -20,7 +20,7 @@ pub fn timings(table: &[u8], name_length: usize, repeats: usize) -> [Timing; 3] 
     };
     let mut proved = || {
         for _ in 0..CALLS {
-            assert_eq!(raw::inspect(black_box(table), &absent, 0).number, 4);
+            assert_eq!(raw::inspect(black_box(table), &absent, 0, false).number, 4);
         }
     };
     let mut second = || {

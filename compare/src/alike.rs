@@ -1,5 +1,7 @@
 //! Two names of one length, and two keys, that differ in one bit, at every place; and equal ones.
 
+pub mod two;
+
 use crate::area::{Area, Key};
 use crate::both;
 use crate::call::{Answer, Call, Connection};
@@ -53,7 +55,7 @@ impl Alike {
                     .map_err(|problem| format!("{problem}; names {name:02x?}, {other:02x?}"))?;
             }
         }
-        let key: Key = std::array::from_fn(|place| (37 * place) as u8);
+        let key = key();
         for other in one_bit_unlike(&key, |_| true) {
             self.keys(&key, &other)
                 .map_err(|problem| format!("{problem}; keys {key:02x?}, {other:02x?}"))?;
@@ -72,8 +74,8 @@ impl Alike {
             let mut area = small_tables::with_pins_in(&slots);
             area.put_name(first, one);
             area.put_name(last, other);
-            is_inspected(&mut area, first)?;
-            is_inspected(&mut area, last)?;
+            is_inspected(&mut area, first, false)?;
+            is_inspected(&mut area, last, false)?;
             self.names.different += 1;
             area.put_name(first, other);
             is_damaged(&area)?;
@@ -105,6 +107,11 @@ impl Alike {
     }
 }
 
+/// Every byte of it is another.
+fn key() -> Key {
+    std::array::from_fn(|place| (37 * place) as u8)
+}
+
 fn is_letter_or_digit(byte: u8) -> bool {
     matches!(byte, b'a'..=b'z' | b'0'..=b'9')
 }
@@ -123,8 +130,8 @@ fn one_bit_unlike(bytes: &[u8], may_stand: fn(u8) -> bool) -> Vec<Vec<u8>> {
     others
 }
 
-/// Inspection of the slot's name answers its own record.
-fn is_inspected(area: &mut Area, slot: usize) -> Result<(), String> {
+/// Inspection of the slot's name, of its first or its second record, answers the slot's own.
+fn is_inspected(area: &mut Area, slot: usize, second: bool) -> Result<(), String> {
     let record = area.record(slot);
     let end = record.end.unwrap_or(0);
     let own = Answer {
@@ -138,6 +145,7 @@ fn is_inspected(area: &mut Area, slot: usize) -> Result<(), String> {
     let inspection = Call::Inspect {
         name: area.name(slot).to_vec(),
         clock: u64::from(LATEST),
+        second,
     };
     let answer = both::call(&mut area.bytes, &inspection)?;
     match answer == own {

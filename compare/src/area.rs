@@ -1,6 +1,7 @@
 //! The bytes of a pin table by slots, as the comparison builds, reads and damages them.
 
 use crate::spelling;
+use tack::table::Edition;
 
 pub const LENGTH: usize = tack::table::AREA_LENGTH;
 pub const KEY_SLOTS: usize = 64;
@@ -10,6 +11,8 @@ pub const LIMIT: u32 = 4_294_924_095;
 /// The longest active period.
 pub const LONGEST: u32 = 43_200;
 
+/// Where the edition stands.
+const EDITION: usize = 4;
 const FIRST_NAME: usize = 4616;
 /// The bytes of a name slot.
 const NAME_SLOT: usize = 272;
@@ -17,11 +20,26 @@ const NAME_SLOT: usize = 272;
 pub type Key = [u8; 64];
 
 /// What a name slot says besides the name.
-#[derive(Clone, Copy)]
+#[derive(Clone, Copy, PartialEq, Eq)]
 pub struct Record {
     pub key_slot: usize,
     pub initial: u32,
     pub end: Option<u32>,
+}
+
+impl Record {
+    /// At its end a pin is no longer active.
+    pub fn is_active(&self, clock: u64) -> bool {
+        self.end.is_some_and(|end| clock < u64::from(end))
+    }
+}
+
+/// A name record, where it stands, and the key that it stands on.
+#[derive(Clone, Copy, PartialEq, Eq)]
+pub struct Pin {
+    pub name_slot: usize,
+    pub record: Record,
+    pub key: Key,
 }
 
 /// An area of the right length. Its readers want a sound table; its writers make any.
@@ -31,10 +49,30 @@ pub struct Area {
 }
 
 impl Area {
+    /// The empty table of edition one.
     pub fn empty() -> Area {
         Area {
             bytes: vec![0; LENGTH],
         }
+    }
+
+    /// The empty table of an edition.
+    pub fn of_edition(edition: Edition) -> Area {
+        let mut area = Area::empty();
+        area.bytes[EDITION] = edition_byte(edition);
+        area
+    }
+
+    pub fn edition(&self) -> Edition {
+        match self.bytes[EDITION] {
+            0 => Edition::One,
+            _ => Edition::Two,
+        }
+    }
+
+    /// Byte 4, whether it is an edition or not.
+    pub fn set_edition_byte(&mut self, byte: u8) {
+        self.bytes[EDITION] = byte;
     }
 
     pub fn latest(&self) -> u32 {
@@ -91,10 +129,31 @@ impl Area {
         name_in(self.name_slot(slot))
     }
 
-    /// The slot of a name in any spelling.
+    /// The slot of a name in any spelling, the first where it has two.
     pub fn find_name(&self, name: &[u8]) -> Option<usize> {
+        self.slots_of(name).first().copied()
+    }
+
+    /// All slots of a name in any spelling.
+    pub fn slots_of(&self, name: &[u8]) -> Vec<usize> {
         let name = spelling::small(name);
-        (0..NAME_SLOTS).find(|&slot| self.name_slot(slot)[0] == 1 && self.name(slot) == name)
+        let is_of_name = |&slot: &usize| self.name_slot(slot)[0] == 1 && self.name(slot) == name;
+        (0..NAME_SLOTS).filter(is_of_name).collect()
+    }
+
+    /// The pins of a name in any spelling, in the order of their slots.
+    pub fn pins_of(&self, name: &[u8]) -> Vec<Pin> {
+        let slots = self.slots_of(name).into_iter();
+        slots.map(|slot| self.pin(slot)).collect()
+    }
+
+    fn pin(&self, name_slot: usize) -> Pin {
+        let record = self.record(name_slot);
+        Pin {
+            name_slot,
+            record,
+            key: self.key(record.key_slot),
+        }
     }
 
     pub fn record(&self, slot: usize) -> Record {
@@ -113,6 +172,12 @@ impl Area {
         bytes[8..].copy_from_slice(key);
     }
 
+    /// A record, and the name that it is of.
+    pub fn put_pin(&mut self, slot: usize, record: Record, name: &[u8]) {
+        self.put_record(slot, record);
+        self.put_name(slot, name);
+    }
+
     pub fn put_record(&mut self, slot: usize, record: Record) {
         let bytes = self.name_slot_mut(slot);
         bytes[0] = 1;
@@ -128,6 +193,27 @@ impl Area {
         bytes[16..269].fill(0);
         bytes[16..][..name.len()].copy_from_slice(name);
     }
+}
+
+/// Byte 4 of a table of the edition.
+pub fn edition_byte(edition: Edition) -> u8 {
+    match edition {
+        Edition::One => 0,
+        Edition::Two => 1,
+    }
+}
+
+/// The edition that this one is not.
+pub fn other(edition: Edition) -> Edition {
+    match edition {
+        Edition::One => Edition::Two,
+        Edition::Two => Edition::One,
+    }
+}
+
+/// Whether an area, lent as bytes, is the empty table of the edition.
+pub fn is_empty(area: &[u8], edition: Edition) -> bool {
+    area == Area::of_edition(edition).bytes
 }
 
 /// The first used name slot of an area, lent as bytes, whose name has a capital.

@@ -3,11 +3,14 @@
 use crate::area;
 use crate::call::{Answer, By, Call};
 use tack::raw;
-use tack::table::{Refusal, Verdict};
+use tack::table::{Edition, Refusal, Verdict};
 
 /// Whether both find the table sound: the library then refuses the empty name with 12, and before it a damaged table with 11.
 pub fn is_sound(table: &[u8]) -> Result<bool, String> {
-    let (proved, second) = (raw::inspect(table, b"", 0).number, second::is_sound(table));
+    let (proved, second) = (
+        raw::inspect(table, b"", 0, false).number,
+        second::is_sound(table),
+    );
     match (proved, second) {
         (12, true) => Ok(true),
         (11, false) => Ok(false),
@@ -30,9 +33,9 @@ fn by_both(call: &Call, before: &[u8]) -> Result<Given, String> {
     let (proved, second) = (proved?, second?);
     proved.same_as(&second, ["proved", "second"])?;
     let answer = proved.answer;
-    if !is_kept(answer.number, before, &proved.table) {
+    if !is_kept(call, answer.number, before, &proved.table) {
         Err(format!("both changed the table with {answer:?}"))
-    } else if alert(answer.number) != answer.alert {
+    } else if alert(answer.number, call.edition()) != answer.alert {
         Err(format!(
             "the safe crate gives another alert than {answer:?}"
         ))
@@ -105,20 +108,20 @@ fn first_difference(one: &[u8], two: &[u8]) -> Option<usize> {
     }
 }
 
-/// Whether the table is the same after a number that says so, and all zero after starting.
-fn is_kept(number: u8, before: &[u8], after: &[u8]) -> bool {
-    match number {
-        0..=3 => true,
-        7 => after.iter().all(|&byte| byte == 0),
+/// Whether the table is the same after a number that says so, and empty after starting.
+fn is_kept(call: &Call, number: u8, before: &[u8], after: &[u8]) -> bool {
+    match (number, call) {
+        (0..=3, _) => true,
+        (7, Call::Start(edition)) => area::is_empty(after, *edition),
         _ => before == after,
     }
 }
 
-/// The alert that the safe crate knows for the number.
-fn alert(number: u8) -> u8 {
+/// The alert that the safe crate knows for the number in the edition.
+fn alert(number: u8, edition: Edition) -> u8 {
     let verdicts = [Verdict::Unpinned, Verdict::Confirmed, Verdict::Contradicted];
     match Refusal::of(number) {
-        Some(refusal) => refusal.alert(),
+        Some(refusal) => refusal.alert(edition),
         None => verdicts
             .iter()
             .find(|verdict| verdict.number() == number)

@@ -1,11 +1,14 @@
 //! Random calls on a given table, chosen so that they meet its records and edges.
 
-use crate::area::{Area, Key, LIMIT, LONGEST, NAME_SLOTS};
+mod two;
+
+use crate::area::{Area, Key, Record, LIMIT, LONGEST, NAME_SLOTS};
 use crate::call::{Call, Connection};
 use crate::pool;
 use crate::random::Random;
 use crate::spelling;
 use crate::wire::{self, Tack, HASH};
+use tack::table::Edition;
 
 /// How the calls on a table are mixed.
 #[derive(Clone)]
@@ -98,9 +101,10 @@ impl<'a> Choices<'a> {
         }
     }
 
+    /// A call of edition one.
     pub fn call(&mut self) -> Call {
         if self.random.one_in(self.mix.one_start_in) {
-            Call::Start
+            Call::Start(Edition::One)
         } else if self.random.one_in(self.mix.one_deletion_in) {
             self.deletion()
         } else if self.random.one_in(6) {
@@ -119,13 +123,23 @@ impl<'a> Choices<'a> {
         self.inspection_of(name)
     }
 
+    /// Inspection of the name's record, in edition two of the first or the second.
     pub fn inspection_of(&mut self, name: Vec<u8>) -> Call {
+        let second = self.area.edition() == Edition::Two && self.random.one_in(2);
+        self.inspection_of_record(name, second)
+    }
+
+    fn inspection_of_record(&mut self, name: Vec<u8>, second: bool) -> Call {
         let clock = match self.random.below(4) {
             0 => u64::from(self.random.up_to(LIMIT)),
             1 => *self.random.pick(&[0, u64::from(LIMIT)]),
             _ => self.clock(&name),
         };
-        Call::Inspect { name, clock }
+        Call::Inspect {
+            name,
+            clock,
+            second,
+        }
     }
 
     pub fn judgement(&mut self) -> Call {
@@ -198,10 +212,9 @@ impl<'a> Choices<'a> {
     fn later_clock(&mut self, name: &[u8]) -> u32 {
         let latest = self.area.latest();
         let step = self.random.up_to(self.mix.step);
-        let clock = match self.area.find_name(name) {
+        let clock = match self.record_of(name) {
             _ if latest == 0 => self.mix.first_clock.saturating_add(step),
-            Some(slot) if self.random.one_in(8) => {
-                let record = self.area.record(slot);
+            Some(record) if self.random.one_in(8) => {
                 let full_grown = record.initial.saturating_add(LONGEST);
                 let edge = record.end.filter(|_| !self.random.one_in(4));
                 let around = edge.unwrap_or(full_grown).saturating_sub(1);
@@ -211,6 +224,15 @@ impl<'a> Choices<'a> {
             _ => latest.saturating_add(step),
         };
         clock.clamp(latest, LIMIT)
+    }
+
+    /// A record of the name, either where it has two.
+    fn record_of(&mut self, name: &[u8]) -> Option<Record> {
+        match self.area.pins_of(name)[..] {
+            [first, second] => Some(self.random.pick(&[first, second]).record),
+            [pin] => Some(pin.record),
+            _ => None,
+        }
     }
 
     /// Often the key of the name's own pin, with generations around the floor and an expiration around the clock.

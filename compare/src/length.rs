@@ -5,7 +5,7 @@ use std::time::{Duration, Instant};
 /// When a run is long enough.
 #[derive(Clone, Copy)]
 pub enum Length {
-    /// So many extensions and names, and half as many calls on tables; slots of tables come beside them.
+    /// So many extensions and names, and half as many calls on tables; slots of tables and edition two come beside them.
     Inputs(u64),
     Minutes(u64),
 }
@@ -21,6 +21,10 @@ pub struct Progress {
     pub slots: u64,
     pub calls: u64,
     pub nights: u64,
+    /// Extensions of edition two, and two names or two keys in its tables.
+    pub inputs_two: u64,
+    /// Calls on tables of edition two, and of lists in both editions.
+    pub calls_two: u64,
 }
 
 impl Progress {
@@ -33,6 +37,8 @@ impl Progress {
             slots: 0,
             calls: 0,
             nights: 0,
+            inputs_two: 0,
+            calls_two: 0,
         }
     }
 
@@ -59,8 +65,9 @@ impl Progress {
     pub fn counts(&self) -> String {
         let (slots, calls, nights) = (self.slots, self.calls, self.nights);
         let inputs = self.inputs + slots;
+        let (inputs_two, calls_two) = (self.inputs_two, self.calls_two);
         format!(
-            "{inputs} inputs, {slots} of them slots of tables, {calls} calls and {nights} nights"
+            "{inputs} inputs, {slots} of them slots of tables, {calls} calls and {nights} nights; with edition two {inputs_two} inputs and {calls_two} calls more"
         )
     }
 }

@@ -2,10 +2,12 @@
 //!
 //! * [`extensions`], [`names`], [`tables`], [`lists`]: calls of the library, compared by the program `compare`.
 //! * [`padded_names`], [`alike`]: names and keys in the slots of small tables, compared by it too.
+//! * [`edition_two`]: the same for edition two, with [`extensions_two`] and [`mixed_lists`], which are lists in both editions.
 //! * [`nights`]: whole nights of recorded calls, by the proved program and the second one, compared by it too.
 //! * [`make`]: the maker of nights, also for the program `make_night` and for timing.
 //! * [`spelling`]: names in letters of either case, which every part above mixes.
 //! * [`wire`], [`record`], [`area`]: the bytes of extensions, recorded calls and tables, without the help of either program.
+//! * [`tally`], [`kind_counts`]: how often each number and each kind came.
 
 pub mod alike;
 pub mod area;
@@ -13,11 +15,15 @@ pub mod both;
 pub mod call;
 pub mod choices;
 pub mod damage;
+pub mod edition_two;
 pub mod extensions;
+pub mod extensions_two;
+pub mod kind_counts;
 pub mod length;
 pub mod lists;
 pub mod make;
 pub mod marks;
+pub mod mixed_lists;
 pub mod names;
 pub mod nights;
 pub mod padded_names;

@@ -1,9 +1,10 @@
-//! Whole lists of calls from an empty table.
+//! Whole lists of calls of edition one from an empty table.
 
-mod ages;
-mod spellings;
+pub(crate) mod ages;
+pub(crate) mod aside;
+pub(crate) mod spellings;
 
-use crate::area::{Area, KEY_SLOTS, LENGTH, NAME_SLOTS};
+use crate::area::{Area, KEY_SLOTS, NAME_SLOTS};
 use crate::both;
 use crate::call::{Answer, Call, Connection};
 use crate::choices::{Choices, Mix};
@@ -66,7 +67,7 @@ impl Room {
 }
 
 /// An error where one of the counts is 0.
-fn all_came(what: &str, counts: &[u64]) -> Result<(), String> {
+pub(crate) fn all_came(what: &str, counts: &[u64]) -> Result<(), String> {
     match counts.contains(&0) {
         true => Err(format!("{what} never came")),
         false => Ok(()),
@@ -89,7 +90,7 @@ impl Lists {
         while calls < length {
             let call = Choices::new(&mix, &area, random).call();
             if random.one_in(25) {
-                self.aside(&call, &area, random)?;
+                self.call(&mut aside::changed(&area, random), &call)?;
                 calls += 1;
             }
             let before = area.clone();
@@ -111,42 +112,13 @@ impl Lists {
         Ok(answer)
     }
 
-    /// The call on a copy of another length, or with a few bytes changed.
-    fn aside(&mut self, call: &Call, area: &Area, random: &mut Random) -> Result<(), String> {
-        let mut bytes = area.bytes.clone();
-        if random.one_in(3) {
-            let any = random.below(2 * LENGTH);
-            bytes.resize(*random.pick(&[0, LENGTH - 1, LENGTH + 1, any]), 0);
-        } else {
-            for _ in 0..1 + random.below(2) {
-                let at = place(area, random);
-                let byte = bytes[at];
-                // The last is a letter's other case.
-                let others = [0, 1, 2, 255, byte ^ 1, byte.wrapping_add(1), byte ^ 0x20];
-                bytes[at] = *random.pick(&others);
-            }
-        }
-        self.call(&mut bytes, call)?;
-        Ok(())
-    }
-
     /// The verdict: every number, every spelling, every kind of room and every age of a pin came.
     pub fn finish(&self) -> Result<(), String> {
         let numbers: Vec<u8> = (0..=7).chain(10..=23).collect();
         self.numbers.report("calls of lists", &numbers)?;
-        self.spellings.report()?;
+        let named: Vec<u8> = (0..=6).chain(10..=23).collect();
+        self.spellings.report("calls of lists", &named)?;
         self.room.report()?;
-        self.ages.report()
-    }
-}
-
-/// A byte of the header or of any slot, more often one that is used.
-fn place(area: &Area, random: &mut Random) -> usize {
-    let (keys, names) = (area.used_keys(), area.used_names());
-    match random.below(4) {
-        0 => random.below(8),
-        1 if !keys.is_empty() => 8 + 72 * random.pick(&keys) + random.below(72),
-        2 if !names.is_empty() => 4616 + 272 * random.pick(&names) + random.below(20),
-        _ => random.below(LENGTH),
+        self.ages.report("pins")
     }
 }

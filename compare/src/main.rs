@@ -1,24 +1,28 @@
 //! Runs the proved library and the second program on the same calls and compares every answer and every byte; runs the
 //! proved program that replays a night, and the second one, on the same nights and compares every line.
 //!
-//! * `compare`: 200,000 extensions and names, some hundred thousand slots of tables, 100,000 calls on tables, and some hundred
-//!   nights.
-//! * `compare INPUTS [SEED]`: so many extensions and names, half as many calls, and some more slots and nights with them.
+//! * `compare`: of edition one 200,000 extensions and names, some hundred thousand slots of tables, 100,000 calls on tables,
+//!   and some hundred nights; with edition two some ten thousand calls more, and some hundred thousand extensions.
+//! * `compare INPUTS [SEED]`: so many extensions and names, half as many calls, and some more slots and nights with them; of
+//!   edition two its edges, and a list in both editions for about every second list of edition one.
 //! * `compare --minutes MINUTES [SEED]`: for so long.
 //! * `compare --nights NIGHTS [SEED]`: nights alone, every kind of them and so many at least.
 //!
 //! Names come in any spelling, and each program must take one with capitals as it takes the same name in small letters.
 //!
 //! The proved program is `target/bin/replay`, unless `REPLAY_PROGRAM` names another. The comparison ends with status 1 at the
-//! first difference, or if a number, a spelling, an age of a pin, a kind of name field, of damage, of full table or of night
-//! never came.
+//! first difference, or if a number, a spelling, an age of a pin, a kind of name field, of damage, of full table, of night or
+//! of anything else that is counted in edition two never came.
 
+use compare::edition_two::EditionTwo;
 use compare::length::{Length, Progress};
 use compare::nights::Nights;
 use compare::padded_names::PaddedNames;
 use compare::random::Random;
-use compare::{alike, extensions, lists, names, tables};
+use compare::tables::Tables;
+use compare::{alike, extensions, lists, names};
 use std::process::ExitCode;
+use tack::table::Edition;
 
 /// Everything that is compared.
 struct Comparison {
@@ -26,8 +30,9 @@ struct Comparison {
     names: names::Names,
     padded_names: PaddedNames,
     alike: alike::Alike,
-    tables: tables::Tables,
+    tables: Tables,
     lists: lists::Lists,
+    edition_two: EditionTwo,
     nights: Nights,
 }
 
@@ -38,8 +43,9 @@ impl Comparison {
             names: names::Names::default(),
             padded_names: PaddedNames::new(seed),
             alike: alike::Alike::default(),
-            tables: tables::Tables::default(),
+            tables: Tables::new(Edition::One),
             lists: lists::Lists::default(),
+            edition_two: EditionTwo::new(seed),
             nights,
         }
     }
@@ -53,12 +59,13 @@ impl Comparison {
             progress.calls += self.lists.list(random)?;
             progress.say();
         }
+        self.edition_two.edges(progress)?;
         progress.nights += self.nights.edges()?;
         progress.say();
         Ok(())
     }
 
-    /// A list of calls, some tables, twice as many extensions and names, with name fields beside them, and a night.
+    /// A list of calls, some tables, twice as many extensions and names, with name fields beside them; edition two; a night.
     fn round(&mut self, random: &mut Random, progress: &mut Progress) -> Result<(), String> {
         progress.calls += self.lists.list(random)?;
         for _ in 0..5 {
@@ -68,6 +75,7 @@ impl Comparison {
             progress.inputs += self.extensions.case(random)? + self.names.case(random)?;
             progress.slots += self.padded_names.case()?;
         }
+        self.edition_two.round(progress)?;
         progress.nights += self.nights.case()?;
         progress.say();
         Ok(())
@@ -80,6 +88,7 @@ impl Comparison {
         self.alike.finish()?;
         self.tables.finish()?;
         self.lists.finish()?;
+        self.edition_two.finish()?;
         self.nights.finish()
     }
 }

@@ -39,11 +39,15 @@ pub fn bytes(night: impl IntoIterator<Item = Connection>) -> io::Result<Vec<u8>>
 
 /// An extension with one tack of generation 3 that does not expire, activation enabled.
 pub fn showing(key: Key) -> Vec<u8> {
-    let tack = Tack {
+    wire::extension(Some(&generation_3(key)), &[], 1)
+}
+
+/// A tack of generation 3 that does not expire.
+pub fn generation_3(key: Key) -> Tack {
+    Tack {
         key,
         min_generation: 3,
         generation: 3,
         expiration: u32::MAX,
-    };
-    wire::extension(Some(&tack), &[], 1)
+    }
 }

@@ -18,8 +18,8 @@ pub fn with_pins_in(slots: &[(usize, usize)]) -> Area {
             initial: 1_000_000 + minutes,
             end: Some(1_500_000 + 2 * minutes),
         };
-        area.put_record(name_slot, record);
-        area.put_name(name_slot, format!("pin-{index}.example").as_bytes());
+        let name = format!("pin-{index}.example");
+        area.put_pin(name_slot, record, name.as_bytes());
     }
     area
 }

@@ -3,11 +3,16 @@
 use crate::area::{Area, Record, KEY_SLOTS, LIMIT, LONGEST, NAME_SLOTS};
 use crate::pool;
 use crate::random::Random;
+use tack::table::Edition;
 
-/// What a table is to be like. There are at least as many names as keys, and no names without keys.
+/// What a table is to be like. There are at least as many name records as keys, and none without keys.
 pub struct Fill {
+    pub edition: Edition,
+    /// Name records.
     pub names: usize,
     pub keys: usize,
+    /// So many names have two records, for which edition two and two keys are needed.
+    pub pairs: usize,
     pub latest: u32,
     /// A key slot that is to be used (yes) or free (no).
     pub key_slot: Option<(usize, bool)>,
@@ -16,14 +21,28 @@ pub struct Fill {
 }
 
 impl Fill {
-    /// That many names and keys in any slots.
-    pub fn of(names: usize, keys: usize, random: &mut Random) -> Fill {
+    /// That many name records and keys in any slots; in edition two with as many pairs as it happens.
+    pub fn of(edition: Edition, names: usize, keys: usize, random: &mut Random) -> Fill {
+        let pairs = match edition {
+            Edition::Two if keys > 1 => random.below(names / 2 + 1),
+            _ => 0,
+        };
         Fill {
+            edition,
             names,
             keys,
+            pairs,
             latest: latest(random),
             key_slot: None,
             name_slot: None,
+        }
+    }
+
+    /// Which name a record is of: the first records are those of the pairs.
+    fn name_of(&self, record: usize) -> usize {
+        match record < 2 * self.pairs {
+            true => record / 2,
+            false => record - self.pairs,
         }
     }
 }
@@ -36,7 +55,7 @@ fn latest(random: &mut Random) -> u32 {
 
 /// A sound table, with names and keys of one family each.
 pub fn table(fill: &Fill, random: &mut Random) -> Area {
-    let mut area = Area::empty();
+    let mut area = Area::of_edition(fill.edition);
     area.set_latest(fill.latest);
     let key_slots = slots(fill.keys, KEY_SLOTS, fill.key_slot, random);
     let family = random.below(pool::KEY_FAMILIES);
@@ -46,17 +65,29 @@ pub fn table(fill: &Fill, random: &mut Random) -> Area {
     }
     let name_slots = slots(fill.names, NAME_SLOTS, fill.name_slot, random);
     let family = random.below(pool::NAME_FAMILIES);
-    let numbers = slots(fill.names, 200, None, random);
-    for (index, (&slot, &number)) in name_slots.iter().zip(&numbers).enumerate() {
-        // The first names give each key one.
-        let key_slot = match key_slots.get(index) {
-            Some(&key_slot) => key_slot,
-            None => *random.pick(&key_slots),
-        };
-        area.put_record(slot, record(key_slot, fill.latest, random));
-        area.put_name(slot, &pool::name(family, number));
+    let numbers = slots(fill.names - fill.pairs, 200, None, random);
+    let mut before = None;
+    for (index, &slot) in name_slots.iter().enumerate() {
+        let second = index % 2 == 1 && index < 2 * fill.pairs;
+        let key_slot = key_slot(&key_slots, index, before.filter(|_| second), random);
+        let name = pool::name(family, numbers[fill.name_of(index)]);
+        area.put_pin(slot, record(key_slot, fill.latest, random), &name);
+        before = Some(key_slot);
     }
     area
+}
+
+/// The key slot of a record, another than the one that it must not be. The first records give each key a name.
+fn key_slot(key_slots: &[usize], record: usize, not: Option<usize>, random: &mut Random) -> usize {
+    match key_slots.get(record) {
+        Some(&key_slot) => key_slot,
+        None => loop {
+            let key_slot = *random.pick(key_slots);
+            if Some(key_slot) != not {
+                return key_slot;
+            }
+        },
+    }
 }
 
 /// A record whose times are at their edges or anywhere between.

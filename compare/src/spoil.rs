@@ -25,14 +25,33 @@ pub fn latest_at_limit(area: &mut Area, _: usize, _: &mut Random) {
 pub fn latest_above_limit(area: &mut Area, slot: usize, random: &mut Random) {
     let above = match slot {
         0 => 1,
-        3 => LONGEST,
+        2 => LONGEST,
         _ => 1 + random.up_to(LONGEST - 1),
     };
     area.set_latest(LIMIT + above);
 }
 
+/// A table of edition one is one of edition two as well.
+pub fn edition_two(area: &mut Area, _: usize, _: &mut Random) {
+    area.set_edition_byte(1);
+}
+
+/// The name of a pair stands twice in edition one.
+pub fn edition_one(area: &mut Area, _: usize, _: &mut Random) {
+    area.set_edition_byte(0);
+}
+
+pub fn edition_unknown(area: &mut Area, slot: usize, random: &mut Random) {
+    let byte = match slot {
+        0 => 2,
+        2 => 255,
+        _ => random.byte_from(2),
+    };
+    area.set_edition_byte(byte);
+}
+
 pub fn header(area: &mut Area, slot: usize, random: &mut Random) {
-    area.bytes[4 + slot] = random.byte_from(1);
+    area.bytes[5 + slot] = random.byte_from(1);
 }
 
 pub fn floor(area: &mut Area, slot: usize, random: &mut Random) {
@@ -213,6 +232,48 @@ pub fn name_twice(area: &mut Area, slot: usize, random: &mut Random) {
     let other = another(area.used_names(), slot, random);
     let name = area.name(other).to_vec();
     area.put_name(slot, &name);
+}
+
+/// The slot becomes the second of another's name, on another key.
+pub fn second_record(area: &mut Area, slot: usize, random: &mut Random) {
+    another_of_name(area, slot, 1, random);
+}
+
+/// The slot becomes the third of another's name, on a third key.
+pub fn third_record(area: &mut Area, slot: usize, random: &mut Random) {
+    another_of_name(area, slot, 2, random);
+}
+
+/// The slot becomes one more of a name that has so many records in other slots, on a key that it has not.
+fn another_of_name(area: &mut Area, slot: usize, records: usize, random: &mut Random) {
+    let others = name_with(area, slot, records, random);
+    let name = area.name(others[0]).to_vec();
+    let its_keys: Vec<usize> = others
+        .iter()
+        .map(|&other| area.record(other).key_slot)
+        .collect();
+    let mut keys = area.used_keys();
+    keys.retain(|key| !its_keys.contains(key));
+    area.put_name(slot, &name);
+    move_name(area, slot, *random.pick(&keys) as u8);
+}
+
+/// The slot becomes the second of another's name, on the same key.
+pub fn one_key_twice(area: &mut Area, slot: usize, random: &mut Random) {
+    let other = name_with(area, slot, 1, random)[0];
+    let name = area.name(other).to_vec();
+    area.put_name(slot, &name);
+    move_name(area, slot, area.record(other).key_slot as u8);
+}
+
+/// The slots of a name that has so many records, none of them in the slot.
+fn name_with(area: &Area, slot: usize, records: usize, random: &mut Random) -> Vec<usize> {
+    let slots_of = |other| area.slots_of(area.name(other));
+    let names = area.used_names().into_iter().map(slots_of);
+    let names: Vec<Vec<usize>> = names
+        .filter(|slots| slots.len() == records && !slots.contains(&slot))
+        .collect();
+    random.pick(&names).clone()
 }
 
 /// One letter of the name is a capital, some are, or all.

@@ -1,55 +1,71 @@
-//! Single calls on sound tables of every fill, and on tables with every kind of damage.
+//! Single calls on sound tables of every fill, and on tables with every kind of damage, in either edition.
 
-use crate::area::{Area, KEY_SLOTS, LENGTH, NAME_SLOTS};
+use crate::area::{other, Area, KEY_SLOTS, LENGTH, NAME_SLOTS};
 use crate::both;
 use crate::call::Call;
 use crate::choices::{Choices, Mix};
-use crate::damage::{Kind, KINDS, PLACES};
+use crate::damage::{self, Kind, PLACES};
 use crate::pool;
 use crate::random::Random;
 use crate::sound::{self, Fill};
 use crate::spelling;
 use crate::tally::Tally;
+use tack::table::Edition;
 
-/// What the tables have met so far.
+/// What the tables of an edition have met so far.
 pub struct Tables {
+    edition: Edition,
     numbers: Tally,
     fills: u64,
+    kinds: Vec<&'static Kind>,
     /// For each kind of damage, how often it came in the first, a middle and the last slot.
     damage: Vec<[u64; 3]>,
 }
 
-impl Default for Tables {
-    fn default() -> Tables {
+impl Tables {
+    pub fn new(edition: Edition) -> Tables {
+        let kinds = damage::kinds(edition);
         Tables {
+            edition,
             numbers: Tally::default(),
             fills: 0,
-            damage: vec![[0; 3]; KINDS.len()],
+            damage: vec![[0; 3]; kinds.len()],
+            kinds,
         }
     }
-}
 
-impl Tables {
     /// Every kind of damage in every place; other lengths; every number of names with every number of keys.
     pub fn edges(&mut self, random: &mut Random) -> Result<u64, String> {
         let mut calls = 0;
         for _ in 0..10 {
-            for kind in 0..KINDS.len() {
+            for kind in 0..self.kinds.len() {
                 for place in 0..PLACES.len() {
                     calls += self.damaged(kind, place, random)?;
                 }
             }
         }
         for length in [0, 1, LENGTH - 1, LENGTH + 1, 2 * LENGTH] {
-            let chosen = chosen(&Area::empty(), random);
+            let chosen = chosen(&Area::of_edition(self.edition), random);
             calls += self.calls(&mut vec![0xa5; length], &chosen, |number| number == 10)?;
         }
-        for names in 0..=NAME_SLOTS {
-            for keys in usize::from(names > 0)..=names.min(KEY_SLOTS) {
-                calls += self.filled(names, keys, random)?;
-            }
+        for (names, keys) in self.every_fill() {
+            calls += self.filled(names, keys, random)?;
         }
         Ok(calls)
+    }
+
+    /// Numbers of names and keys: all in edition one, and in edition two all that are near an edge.
+    fn every_fill(&self) -> Vec<(usize, usize)> {
+        let mut fills = vec![];
+        for names in 0..=NAME_SLOTS {
+            for keys in usize::from(names > 0)..=names.min(KEY_SLOTS) {
+                let is_near = keys <= 3 || keys + 1 >= names.min(KEY_SLOTS);
+                if self.edition == Edition::One || is_near {
+                    fills.push((names, keys));
+                }
+            }
+        }
+        fills
     }
 
     /// One random table of each sort.
@@ -57,13 +73,13 @@ impl Tables {
         let names = random.below(NAME_SLOTS + 1);
         let most_keys = names.min(KEY_SLOTS);
         let keys = most_keys - random.below(most_keys.max(1));
-        let (kind, place) = (random.below(KINDS.len()), random.below(PLACES.len()));
+        let (kind, place) = (random.below(self.kinds.len()), random.below(PLACES.len()));
         Ok(self.filled(names, keys, random)? + self.damaged(kind, place, random)?)
     }
 
     /// A sound table: a recorded name inspected and deleted; and other calls, then the table started.
     fn filled(&mut self, names: usize, keys: usize, random: &mut Random) -> Result<u64, String> {
-        let area = sound::table(&Fill::of(names, keys, random), random);
+        let area = sound::table(&Fill::of(self.edition, names, keys, random), random);
         self.fills += 1;
         let is_sound = |number| !(10..=11).contains(&number);
         let recorded = recorded(&area, random);
@@ -72,13 +88,16 @@ impl Tables {
             + self.calls(&mut area.bytes.clone(), &others, is_sound)?)
     }
 
-    /// A damaged table, or one at an edge of soundness; the calls are chosen before the damage.
+    /// A damaged table, or one at an edge of soundness, which the other edition judges too; the calls are chosen before the
+    /// damage.
     fn damaged(&mut self, kind: usize, place: usize, random: &mut Random) -> Result<u64, String> {
-        let Kind { name, broken, .. } = KINDS[kind];
-        let slot = KINDS[kind].slot(PLACES[place], random);
-        let mut area = sound::table(&KINDS[kind].fill(slot, random), random);
-        let chosen = chosen(&area, random);
-        KINDS[kind].apply(&mut area, slot, random);
+        let damage = self.kinds[kind];
+        let Kind { name, broken, .. } = *damage;
+        let slot = damage.slot(PLACES[place], random);
+        let mut area = sound::table(&damage.fill(self.edition, slot, random), random);
+        let mut chosen = chosen(&area, random);
+        chosen.insert(0, by_other_edition(&area, random));
+        damage.apply(&mut area, slot, random);
         match second::parse(&area.bytes).err() {
             None if broken.is_empty() => {}
             Some(damage) if broken.contains(&damage) => {}
@@ -111,14 +130,16 @@ impl Tables {
         Ok(calls.len() as u64)
     }
 
-    /// The verdict: every number of deletion, inspection and starting and every kind of damage in every place came.
+    /// The verdict: every number of deletion, inspection and starting, 27, and every kind of damage in every place came.
     pub fn finish(&self) -> Result<(), String> {
-        let numbers = [0, 1, 2, 3, 4, 5, 6, 7, 10, 11, 12, 13];
-        self.numbers.report("calls on tables", &numbers)?;
+        let numbers = [0, 1, 2, 3, 4, 5, 6, 7, 10, 11, 12, 13, 27];
+        let edition = self.edition;
+        self.numbers
+            .report(&format!("calls on tables of {edition}"), &numbers)?;
         let least = self.damage.iter().flatten().min().copied().unwrap_or(0);
-        let (fills, kinds) = (self.fills, KINDS.len());
-        println!("tables: {fills} sound; {kinds} kinds of damage and edges, each at least {least} times in each place");
-        let never = KINDS.iter().zip(&self.damage);
+        let (fills, kinds) = (self.fills, self.kinds.len());
+        println!("tables of {edition}: {fills} sound; {kinds} kinds of damage and edges, each at least {least} times in each place");
+        let never = self.kinds.iter().zip(&self.damage);
         let never: Vec<&str> = never
             .filter(|(_, counts)| counts.contains(&0))
             .map(|(kind, _)| kind.name)
@@ -149,8 +170,15 @@ fn recorded(area: &Area, random: &mut Random) -> Vec<Call> {
 fn chosen(area: &Area, random: &mut Random) -> Vec<Call> {
     let mix = mix(random);
     let mut choices = Choices::new(&mix, area, random);
-    let (inspection, judgement) = (choices.inspection(), choices.judgement());
-    vec![inspection, judgement, choices.deletion(), Call::Start]
+    let (inspection, judgement) = (choices.inspection(), choices.judgement_by(area.edition()));
+    vec![inspection, judgement, choices.deletion(), choices.start()]
+}
+
+/// Judging by the edition that the table is not of.
+fn by_other_edition(area: &Area, random: &mut Random) -> Call {
+    let mix = mix(random);
+    let mut choices = Choices::new(&mix, area, random);
+    choices.judgement_by(other(area.edition()))
 }
 
 fn mix(random: &mut Random) -> Mix {

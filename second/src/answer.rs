@@ -23,9 +23,12 @@ pub const TARGET_HASH_UNEQUAL: u8 = 20;
 pub const TACK_SIGNATURE_INCORRECT: u8 = 21;
 pub const GENERATION_BELOW_FLOOR: u8 = 22;
 pub const EXPIRED: u8 = 23;
+pub const TWO_TACKS_WITH_ONE_KEY: u8 = 24;
 pub const WRITER_BAD_PART: u8 = 25;
 pub const WRITER_NO_SPACE: u8 = 26;
+pub const TABLE_OF_OTHER_EDITION: u8 = 27;
 
+const BAD_CERTIFICATE: u8 = 42;
 const CERTIFICATE_REVOKED: u8 = 44;
 const CERTIFICATE_EXPIRED: u8 = 45;
 const ILLEGAL_PARAMETER: u8 = 47;
@@ -33,7 +36,7 @@ const ACCESS_DENIED: u8 = 49;
 const DECODE_ERROR: u8 = 50;
 const DECRYPT_ERROR: u8 = 51;
 
-/// The alert to send with an answer; 0 is no alert.
+/// The alert to send with an answer of edition one; 0 is no alert.
 pub fn alert_of(number: u8) -> u8 {
     match number {
         CONTRADICTED => ACCESS_DENIED,
@@ -46,5 +49,18 @@ pub fn alert_of(number: u8) -> u8 {
         GENERATION_BELOW_FLOOR => CERTIFICATE_REVOKED,
         EXPIRED => CERTIFICATE_EXPIRED,
         _ => 0,
+    }
+}
+
+/// "In this edition 16, 18-21 and 24 carry alert 42."
+pub fn alert_of_two(number: u8) -> u8 {
+    match number {
+        EXTENSION_MALFORMED
+        | KEY_NOT_A_POINT
+        | GENERATION_BELOW_OWN_MINIMUM
+        | TARGET_HASH_UNEQUAL
+        | TACK_SIGNATURE_INCORRECT
+        | TWO_TACKS_WITH_ONE_KEY => BAD_CERTIFICATE,
+        _ => alert_of(number),
     }
 }

@@ -1,4 +1,4 @@
-//! The TACK extension: reader, parsed form and writers.
+//! The TACK extension of edition one: reader, parsed form and writers.
 //!
 //! In order: a one-byte length, the tack, a two-byte length, the break
 //! signatures, one activation byte. Nothing follows.
@@ -7,7 +7,7 @@ use crate::answer::{
     alert_of, EXTENSION_MALFORMED, READ_OR_WRITTEN, WRITER_BAD_PART, WRITER_NO_SPACE,
 };
 use crate::minutes::Minutes;
-use crate::pins::PublicKey;
+use crate::records::PublicKey;
 
 pub const TACK_LENGTH: usize = 166;
 pub const BREAK_SIGNATURE_LENGTH: usize = 128;
@@ -17,7 +17,8 @@ pub const MOST_BREAK_SIGNATURES: usize = 8;
 const SIGNED_TACK_LENGTH: usize = 102;
 const SIGNED_PREFIX: &[u8; 8] = b"tack_sig";
 
-/// The reader's answer; the activation of a refused reading is 0.
+/// The reader's answer. The activation, in edition two the flags, of a refused
+/// reading is 0.
 #[derive(Debug, Clone, Copy, PartialEq, Eq)]
 pub struct Reading {
     pub number: u8,
@@ -33,7 +34,7 @@ pub struct Span {
 }
 
 impl Span {
-    fn new(start: usize, part: &[u8]) -> Span {
+    pub(crate) fn new(start: usize, part: &[u8]) -> Span {
         let length = part.len();
         let start = if length == 0 { 0 } else { start };
         Span { start, length }
@@ -49,7 +50,7 @@ pub struct Writing {
 }
 
 impl Writing {
-    fn new(number: u8, written: usize) -> Writing {
+    pub(crate) fn new(number: u8, written: usize) -> Writing {
         let alert = alert_of(number);
         Writing {
             number,
@@ -234,7 +235,7 @@ pub fn signed_bytes(tack: &[u8], out: &mut [u8]) -> Writing {
 }
 
 /// Copies to the start of the output, or refuses if the output is too small.
-fn put(bytes: &[u8], out: &mut [u8]) -> Writing {
+pub(crate) fn put(bytes: &[u8], out: &mut [u8]) -> Writing {
     match out.get_mut(..bytes.len()) {
         Some(place) => {
             place.copy_from_slice(bytes);

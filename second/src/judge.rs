@@ -1,19 +1,21 @@
-//! The judge: one finished connection, a lent pin table, a verdict.
+//! The judge of edition one: one finished connection, a lent pin table, a
+//! verdict.
 //!
 //! All refusals come before the first change, so a refused call leaves the
 //! table as it was. The table is lent as an area, or kept parsed by a caller
 //! with many calls.
 
 use crate::answer::{
-    alert_of, BREAK_SIGNATURE_INCORRECT, CLOCK_ABOVE_LIMIT, CLOCK_BEFORE_LATEST, CONFIRMED,
-    CONTRADICTED, EXPIRED, EXTENSION_MALFORMED, GENERATION_BELOW_FLOOR,
-    GENERATION_BELOW_OWN_MINIMUM, HANDSHAKE_NOT_FINISHED, KEY_NOT_A_POINT, NAME_MALFORMED,
+    alert_of, BREAK_SIGNATURE_INCORRECT, CONFIRMED, CONTRADICTED, EXPIRED, EXTENSION_MALFORMED,
+    GENERATION_BELOW_FLOOR, GENERATION_BELOW_OWN_MINIMUM, KEY_NOT_A_POINT,
     TACK_SIGNATURE_INCORRECT, TARGET_HASH_UNEQUAL, UNPINNED,
 };
+use crate::edition::Edition;
 use crate::extension::{Extension, Tack};
 use crate::minutes::Minutes;
 use crate::name::FoldedName;
 use crate::pins::{NoRoom, PinTable};
+use crate::refusal::{admit, refuse_if};
 use crate::table::parse;
 
 /// What the caller knows of the connection. Answers for absent things are
@@ -86,12 +88,15 @@ struct Case<'a> {
 }
 
 impl<'a> Case<'a> {
-    /// The lowest number that applies is the refusal.
+    /// The lowest number that applies is the refusal, 27 counting as next to 11.
     fn admit(table: &'a mut PinTable, connection: &Connection) -> Result<Case<'a>, u8> {
-        let name = FoldedName::of(connection.name).ok_or(NAME_MALFORMED)?;
-        let clock = Minutes::from_clock(connection.clock).ok_or(CLOCK_ABOVE_LIMIT)?;
-        refuse_if(clock < table.latest(), CLOCK_BEFORE_LATEST)?;
-        refuse_if(!connection.handshake_finished, HANDSHAKE_NOT_FINISHED)?;
+        let (name, clock) = admit(
+            table,
+            Edition::One,
+            connection.name,
+            connection.clock,
+            connection.handshake_finished,
+        )?;
         let extension = match connection.extension {
             Some(bytes) => Extension::parse(bytes).ok_or(EXTENSION_MALFORMED)?,
             None => Extension::absent(),
@@ -122,9 +127,8 @@ impl<'a> Case<'a> {
         let hash_unequal = connection.spki_sha256 != tack.target_hash;
         refuse_if(hash_unequal, TARGET_HASH_UNEQUAL)?;
         refuse_if(!connection.signature_correct, TACK_SIGNATURE_INCORRECT)?;
-        let floor = self.table.floor(&tack.public_key);
-        let below_floor = floor.is_some_and(|floor| tack.generation < floor);
-        refuse_if(below_floor, GENERATION_BELOW_FLOOR)?;
+        let revoked = self.table.revokes(&tack.public_key, tack.generation);
+        refuse_if(revoked, GENERATION_BELOW_FLOOR)?;
         refuse_if(tack.expiration < self.clock, EXPIRED)
     }
 
@@ -148,7 +152,7 @@ impl<'a> Case<'a> {
         match self.table.pin_of(&self.name) {
             Some((_, key_record)) if key_record.key == *key => {
                 if self.extension.activation {
-                    self.table.activate(&self.name, self.clock);
+                    self.table.activate(&self.name, key, self.clock);
                 }
                 Ok(())
             }
@@ -173,13 +177,5 @@ impl<'a> Case<'a> {
             }
             _ => UNPINNED,
         }
-    }
-}
-
-fn refuse_if(applies: bool, number: u8) -> Result<(), u8> {
-    if applies {
-        Err(number)
-    } else {
-        Ok(())
     }
 }

@@ -5,13 +5,18 @@
 //! records are changed, and the area is written back. Both programs are given
 //! the same calls; every answer and every byte afterwards must be the same.
 //!
-//! * [`extension`]: reader and writers of the TACK extension.
-//! * [`judge`](mod@judge): the verdict on one finished connection.
-//! * [`night`]: the calls of a recorded night, its report and its tally.
+//! There are two editions of the draft, and a table is of one of them.
+//!
+//! * [`extension`], [`extension_two`]: readers and writers of the TACK extension.
+//! * [`judge`](mod@judge), [`judge_two`](mod@judge_two): the verdict on one
+//!   finished connection.
+//! * [`night`]: the calls of a recorded night, its report and its tally; all of
+//!   edition one.
 //! * [`manage`]: deletion and inspection of a name, starting a table.
 //! * [`table`]: the lent area as bytes, and what makes it sound.
-//! * [`pins`]: the key records and name records behind it.
-//! * [`name`], [`minutes`], [`answer`]: names, clocks, numbers and alerts.
+//! * [`pins`], [`records`]: the key records and name records behind it.
+//! * [`name`], [`minutes`], [`edition`], [`answer`]: names, clocks, editions,
+//!   numbers and alerts.
 //!
 //! Every function answers for every input, but for `Minutes::since` and
 //! `Minutes::active_period_end`: they panic at a clock before initial, which
@@ -22,18 +27,26 @@
 #![forbid(unsafe_code)]
 
 pub mod answer;
+pub mod edition;
 pub mod extension;
+pub mod extension_two;
 pub mod judge;
+pub mod judge_two;
 pub mod manage;
 pub mod minutes;
 pub mod name;
 pub mod night;
 pub mod pins;
+pub mod records;
+mod refusal;
 pub mod table;
 
-pub use answer::alert_of;
+pub use answer::{alert_of, alert_of_two};
+pub use edition::Edition;
 pub use extension::{BreakSignature, Extension, Reading, Span, Tack, Writing};
+pub use extension_two::ShownTack;
 pub use judge::{judge, judge_kept, Connection, Judgement};
+pub use judge_two::{judge_two, ConnectionTwo};
 pub use manage::{delete, inspect, start, Inspection, Outcome};
 pub use name::is_well_formed;
 pub use night::{read_call, replay, report, write_call, NotRecordable, Tally};

@@ -1,11 +1,13 @@
 //! Deletion and inspection of a name, and starting a table.
 //!
 //! None of these touches the latest clock, except that starting clears all.
+//! Deletion and inspection are the same for tables of both editions.
 
 use crate::answer::{
     alert_of, AREA_LENGTH_WRONG, CLOCK_ABOVE_LIMIT, DELETED, INSPECTED_WITHOUT_END,
     INSPECTED_WITH_END, NAME_MALFORMED, NAME_NOT_RECORDED, STARTED,
 };
+use crate::edition::Edition;
 use crate::minutes::Minutes;
 use crate::name::FoldedName;
 use crate::pins::PinTable;
@@ -49,7 +51,8 @@ impl Inspection {
     }
 }
 
-/// Removes a name's record, and its key if no name is left on it.
+/// Removes a name's record, "both records" of edition two, and each key if no
+/// name is left on it.
 pub fn delete(area: &mut [u8], name: &[u8]) -> Outcome {
     let (mut table, name) = match open(area, name) {
         Ok(opened) => opened,
@@ -62,17 +65,18 @@ pub fn delete(area: &mut [u8], name: &[u8]) -> Outcome {
     Outcome::new(DELETED)
 }
 
-/// Looks at a name's record; the clock may lie before the table's latest.
-pub fn inspect(area: &[u8], name: &[u8], clock: u64) -> Inspection {
-    look(area, name, clock).unwrap_or_else(Inspection::new)
+/// Looks at "the first or the second" record of a name "by slot order"; the
+/// clock may lie before the table's latest.
+pub fn inspect(area: &[u8], name: &[u8], clock: u64, second: bool) -> Inspection {
+    look(area, name, clock, second).unwrap_or_else(Inspection::new)
 }
 
-/// Clears the area, whatever it held.
-pub fn start(area: &mut [u8]) -> Outcome {
+/// Clears the area, whatever it held, for the edition that is asked for.
+pub fn start(area: &mut [u8], edition_two: bool) -> Outcome {
     if area.len() != AREA_LENGTH {
         return Outcome::new(AREA_LENGTH_WRONG);
     }
-    area.fill(0);
+    PinTable::empty_in(Edition::of_answer(edition_two)).write(area);
     Outcome::new(STARTED)
 }
 
@@ -84,10 +88,11 @@ fn open(area: &[u8], name: &[u8]) -> Result<(PinTable, FoldedName), u8> {
     Ok((table, name))
 }
 
-fn look(area: &[u8], name: &[u8], clock: u64) -> Result<Inspection, u8> {
+fn look(area: &[u8], name: &[u8], clock: u64, second: bool) -> Result<Inspection, u8> {
     let (table, name) = open(area, name)?;
     let clock = Minutes::from_clock(clock).ok_or(CLOCK_ABOVE_LIMIT)?;
-    let (name_record, key_record) = table.pin_of(&name).ok_or(NAME_NOT_RECORDED)?;
+    let pin = table.pins_of(&name).nth(usize::from(second));
+    let (name_record, key_record) = pin.ok_or(NAME_NOT_RECORDED)?;
     let inspection = match name_record.end {
         Some(end) => Inspection {
             end: end.value(),

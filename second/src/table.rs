@@ -1,13 +1,15 @@
 //! The lent area: its bytes, and the rules that make it sound.
 //!
-//! Numbers are big-endian. The header holds the latest clock; 64 key slots
-//! follow, then 128 name slots. A free slot is all zero, and so is the empty
-//! table.
+//! Numbers are big-endian. The header holds the latest clock and the edition;
+//! 64 key slots follow, then 128 name slots. A free slot is all zero, and so is
+//! the empty table of edition one.
 
 use crate::answer::{AREA_LENGTH_WRONG, TABLE_DAMAGED};
+use crate::edition::Edition;
 use crate::minutes::Minutes;
 use crate::name::{is_well_formed_in_table, LONGEST_NAME};
-use crate::pins::{KeyRecord, KeySlot, NameRecord, NameSlot, PinTable, KEY_SLOTS, NAME_SLOTS};
+use crate::pins::{PinTable, KEY_SLOTS, NAME_SLOTS};
+use crate::records::{KeyRecord, KeySlot, NameRecord, NameSlot};
 
 const HEADER_LENGTH: usize = 8;
 const KEY_SLOT_LENGTH: usize = 72;
@@ -16,6 +18,8 @@ const FIRST_NAME_SLOT: usize = HEADER_LENGTH + KEY_SLOTS * KEY_SLOT_LENGTH;
 
 pub const AREA_LENGTH: usize = FIRST_NAME_SLOT + NAME_SLOTS * NAME_SLOT_LENGTH;
 
+/// "Byte 4 is then 1, else 0, the rest zero."
+const EDITION_AT: usize = 4;
 /// Where the key stands in a key slot.
 const KEY_AT: usize = 8;
 /// Where the name, padded with zeros, stands in a name slot.
@@ -27,6 +31,7 @@ const NAME_PADDED_END: usize = NAME_AT + LONGEST_NAME;
 pub enum Damage {
     AreaLengthWrong,
     LatestAboveLimit,
+    EditionNeitherZeroNorOne,
     HeaderNotZero,
     KeyUsedNeitherZeroNorOne,
     FreeKeySlotNotZero,
@@ -39,7 +44,11 @@ pub enum Damage {
     NameMalformed,
     NamePaddingNotZero,
     NameSlotEndNotZero,
+    /// In edition one.
     NameTwice,
+    /// In edition two, as the next.
+    NameThrice,
+    NameTwiceOnOneKey,
     NameOnFreeKeySlot,
     InitialAfterLatest,
     EndPresentNeitherZeroNorOne,
@@ -68,8 +77,7 @@ pub fn parse(area: &[u8]) -> Result<PinTable, Damage> {
     let (header, slots) = area.split_at(HEADER_LENGTH);
     let (key_slots, name_slots) = slots.split_at(FIRST_NAME_SLOT - HEADER_LENGTH);
 
-    let mut table = PinTable::empty();
-    table.set_latest(parse_header(header)?);
+    let mut table = parse_header(header)?;
     for (index, slot) in key_slots.chunks_exact(KEY_SLOT_LENGTH).enumerate() {
         parse_key_slot(&mut table, KeySlot(index), slot)?;
     }
@@ -80,11 +88,16 @@ pub fn parse(area: &[u8]) -> Result<PinTable, Damage> {
     Ok(table)
 }
 
-fn parse_header(header: &[u8]) -> Result<Minutes, Damage> {
+/// The table without its records.
+fn parse_header(header: &[u8]) -> Result<PinTable, Damage> {
     let latest = field(header, 0);
     require(latest <= Minutes::LAST_CLOCK, Damage::LatestAboveLimit)?;
-    require(is_zero(&header[4..]), Damage::HeaderNotZero)?;
-    Ok(latest)
+    let edition = Edition::from_byte(header[EDITION_AT]);
+    let edition = edition.ok_or(Damage::EditionNeitherZeroNorOne)?;
+    require(is_zero(&header[EDITION_AT + 1..]), Damage::HeaderNotZero)?;
+    let mut table = PinTable::empty_in(edition);
+    table.set_latest(latest);
+    Ok(table)
 }
 
 fn parse_key_slot(table: &mut PinTable, index: KeySlot, slot: &[u8]) -> Result<(), Damage> {
@@ -117,7 +130,23 @@ fn parse_name_slot(table: &mut PinTable, index: NameSlot, slot: &[u8]) -> Result
         initial,
         end,
     };
-    require(table.put_name(name, record), Damage::NameTwice)
+    if table.put_name(name, record) {
+        Ok(())
+    } else {
+        Err(one_record_too_many(table, name, key_slot))
+    }
+}
+
+/// Why the name takes no further record with this key.
+fn one_record_too_many(table: &PinTable, name: &[u8], key_slot: KeySlot) -> Damage {
+    let mut records = table.name_records();
+    let stands_on_key =
+        |(other, record): (&[u8], &NameRecord)| other == name && record.key_slot == key_slot;
+    match table.edition() {
+        Edition::One => Damage::NameTwice,
+        Edition::Two if records.any(stands_on_key) => Damage::NameTwiceOnOneKey,
+        Edition::Two => Damage::NameThrice,
+    }
 }
 
 /// Nothing is folded here: a capital in a table is damage. The length byte can
@@ -173,7 +202,8 @@ impl PinTable {
             return;
         }
         area.fill(0);
-        area[..4].copy_from_slice(&self.latest().to_field());
+        area[..EDITION_AT].copy_from_slice(&self.latest().to_field());
+        area[EDITION_AT] = self.edition().to_byte();
         let (_, slots) = area.split_at_mut(HEADER_LENGTH);
         let (key_slots, name_slots) = slots.split_at_mut(FIRST_NAME_SLOT - HEADER_LENGTH);
         for (KeySlot(index), record) in self.key_records() {

@@ -98,11 +98,11 @@ impl Part {
 
 /// By the inspection of the empty name, which is refused as soon as the table is found sound.
 fn check(table: &[u8]) {
-    assert_eq!(raw::inspect(table, b"", 0).number, 12);
+    assert_eq!(raw::inspect(table, b"", 0, false).number, 12);
 }
 
 fn damaged_check(table: &[u8]) {
-    assert_eq!(raw::inspect(table, b"", 0).number, 11);
+    assert_eq!(raw::inspect(table, b"", 0, false).number, 11);
 }
 
 fn second_check(table: &[u8]) {

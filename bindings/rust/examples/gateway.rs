@@ -1,15 +1,25 @@
-//! A small gateway that keeps one table of pins for two tenants, a clinic and a school, and says what each call gave.
+//! A small gateway that keeps one table of pins for two tenants, a clinic and a school, and one of edition two for a pharmacy,
+//! and says what each call gave.
 
 use std::fmt;
-use tack::extension;
-use tack::table::{Connection, Deletion, PinTable, Refusal, Verdict};
+use tack::table::{
+    Connection, ConnectionTwo, Deletion, Edition, Inspection, Judgement, PinTable, Refusal, Verdict,
+};
+use tack::{extension, extension_two};
 
 /// The SHA-256 of every server's SubjectPublicKeyInfo in these stories.
 const HASH: [u8; 32] = [0x77; 32];
 /// The verifier's part is played: each signature passes.
 const SIGNATURE: [u8; 64] = [0x55; 64];
 
-/// What a server shows. A key of these stories is one byte, 64 times.
+/// A tack that does not expire. A key of these stories is one byte, 64 times.
+fn tack(key: u8, min_generation: u8, generation: u8) -> Vec<u8> {
+    let generations = [min_generation, generation];
+    let parts: [&[u8]; 5] = [&[key; 64], &generations, &[0xff; 4], &HASH, &SIGNATURE];
+    parts.concat()
+}
+
+/// What a server shows.
 enum Shown {
     Nothing,
     Tack {
@@ -23,7 +33,7 @@ enum Shown {
 }
 
 impl Shown {
-    /// The TACK extension, if one comes: a tack that does not expire, activation enabled, or a break signature.
+    /// The TACK extension, if one comes: a tack, activation enabled, or a break signature.
     fn extension(&self) -> Option<Vec<u8>> {
         let (tack, breaks) = match *self {
             Shown::Nothing => return None,
@@ -32,11 +42,7 @@ impl Shown {
                 key,
                 min_generation,
                 generation,
-            } => {
-                let generations = [min_generation, generation];
-                let parts: [&[u8]; 5] = [&[key; 64], &generations, &[0xff; 4], &HASH, &SIGNATURE];
-                (parts.concat(), vec![])
-            }
+            } => (tack(key, min_generation, generation), vec![]),
         };
         let mut bytes = vec![0; extension::MAX_LENGTH];
         let written = extension::write(&tack, &breaks, 1, &mut bytes).ok()?;
@@ -62,17 +68,57 @@ impl fmt::Display for Shown {
     }
 }
 
+/// What a server of edition two shows: the tacks of one or two keys, each enabled or not.
+struct Tacks<'a>(&'a [(u8, bool)]);
+
+impl Tacks<'_> {
+    /// The TACK extension of edition two. All tacks are of generation 3.
+    fn extension(&self) -> Option<Vec<u8>> {
+        let tacks: Vec<u8> = self
+            .0
+            .iter()
+            .flat_map(|&(key, _)| tack(key, 3, 3))
+            .collect();
+        let bits = self.0.iter().enumerate();
+        let flags = bits.fold(0, |flags, (bit, &(_, enabled))| {
+            flags | u8::from(enabled) << bit
+        });
+        let mut bytes = vec![0; extension_two::MAX_LENGTH];
+        let written = extension_two::write(&tacks, flags, &mut bytes).ok()?;
+        bytes.truncate(written);
+        Some(bytes)
+    }
+}
+
+impl fmt::Display for Tacks<'_> {
+    fn fmt(&self, f: &mut fmt::Formatter<'_>) -> fmt::Result {
+        let tacks: Vec<String> = self.0.iter().map(shown).collect();
+        write!(f, "tack of key {}", tacks.join(", of "))
+    }
+}
+
+fn shown(&(key, enabled): &(u8, bool)) -> String {
+    let word = if enabled { "enabled" } else { "disabled" };
+    format!("{key:02x} {word}")
+}
+
 /// A call's number and alert, and what they mean.
 type Answer = (u8, u8, String);
 
 /// The table of pins, and a line for each call.
-#[derive(Default)]
 struct Gateway {
     pins: PinTable,
     report: String,
 }
 
 impl Gateway {
+    fn of_edition(edition: Edition) -> Gateway {
+        Gateway {
+            pins: PinTable::of_edition(edition),
+            report: String::new(),
+        }
+    }
+
     fn say(&mut self, clock: u64, name: &str, call: &str, (number, alert, words): Answer) {
         let line =
             format!("{clock:>5}  {name:<22}  {call:<40}  {number:>6}  {alert:>5}  {words}\n");
@@ -92,15 +138,55 @@ impl Gateway {
             signature_correct: true,
             breaks_correct: 0xff,
         });
-        let answer = match judged {
-            Ok(judgement) => answer(judgement.verdict),
-            Err(refusal) => refused(refusal),
-        };
+        let answer = self.judged(judged);
+        self.say(clock, name, &shown.to_string(), answer);
+    }
+
+    /// A finished connection of edition two.
+    fn connect_two(&mut self, clock: u64, name: &str, shown: &Tacks) {
+        let judged = self.pins.judge_two(&ConnectionTwo {
+            clock,
+            name: name.as_bytes(),
+            extension: shown.extension().as_deref(),
+            spki_sha256: &HASH,
+            handshake_finished: true,
+            keys_are_points: [true, true],
+            signatures_correct: [true, true],
+        });
+        let answer = self.judged(judged);
         self.say(clock, name, &shown.to_string(), answer);
     }
 
     fn inspect(&mut self, clock: u64, name: &str) {
-        let answer = match self.pins.inspect(name.as_bytes(), clock) {
+        let inspected = self.pins.inspect(name.as_bytes(), clock);
+        let answer = self.inspected(inspected);
+        self.say(clock, name, "(inspection)", answer);
+    }
+
+    fn inspect_second(&mut self, clock: u64, name: &str) {
+        let inspected = self.pins.inspect_second(name.as_bytes(), clock);
+        let answer = self.inspected(inspected);
+        self.say(clock, name, "(inspection of the second record)", answer);
+    }
+
+    fn delete(&mut self, clock: u64, name: &str) {
+        let answer = match self.pins.delete(name.as_bytes()) {
+            Ok(Deletion::Deleted) => (3, 0, "deleted".to_string()),
+            Ok(Deletion::NotRecorded) => (4, 0, "not recorded".to_string()),
+            Err(refusal) => self.refused(refusal),
+        };
+        self.say(clock, name, "(deletion)", answer);
+    }
+
+    fn judged(&self, judged: Result<Judgement, Refusal>) -> Answer {
+        match judged {
+            Ok(judgement) => answer(judgement.verdict),
+            Err(refusal) => self.refused(refusal),
+        }
+    }
+
+    fn inspected(&self, inspected: Result<Option<Inspection>, Refusal>) -> Answer {
+        match inspected {
             Ok(None) => (4, 0, "not recorded".to_string()),
             Ok(Some(record)) => {
                 let made = format!("made at {}, floor {}", record.initial, record.floor);
@@ -109,18 +195,13 @@ impl Gateway {
                     Some((end, left)) => (6, 0, format!("{made}, end {end}, minutes left {left}")),
                 }
             }
-            Err(refusal) => refused(refusal),
-        };
-        self.say(clock, name, "(inspection)", answer);
+            Err(refusal) => self.refused(refusal),
+        }
     }
 
-    fn delete(&mut self, clock: u64, name: &str) {
-        let answer = match self.pins.delete(name.as_bytes()) {
-            Ok(Deletion::Deleted) => (3, 0, "deleted".to_string()),
-            Ok(Deletion::NotRecorded) => (4, 0, "not recorded".to_string()),
-            Err(refusal) => refused(refusal),
-        };
-        self.say(clock, name, "(deletion)", answer);
+    fn refused(&self, refusal: Refusal) -> Answer {
+        let alert = refusal.alert(self.pins.edition());
+        (refusal.number(), alert, format!("refused: {refusal}"))
     }
 }
 
@@ -131,14 +212,6 @@ fn answer(verdict: Verdict) -> Answer {
         Verdict::Contradicted => "contradicted",
     };
     (verdict.number(), verdict.alert(), word.to_string())
-}
-
-fn refused(refusal: Refusal) -> Answer {
-    (
-        refusal.number(),
-        refusal.alert(),
-        format!("refused: {refusal}"),
-    )
 }
 
 /// A pin is made, activated, contradicted, and ends. Browsers spell its name with capitals.
@@ -190,14 +263,38 @@ fn school(gateway: &mut Gateway) {
     }
 }
 
-/// Both stories, on one table.
+/// Edition two: a server moves from one key to another through two tacks. The old tack is disabled when the new key's pin
+/// stands, and shown until its own has ended.
+fn pharmacy(gateway: &mut Gateway) {
+    let name = "desk.pharmacy.example";
+    let (old, new) = (0x44, 0x45);
+    let both = Tacks(&[(old, true), (new, true)]);
+    gateway.connect_two(4000, name, &Tacks(&[(old, true)]));
+    gateway.connect_two(4600, name, &Tacks(&[(old, true)]));
+    gateway.connect_two(4700, name, &both);
+    gateway.connect_two(4900, name, &both);
+    gateway.inspect(4900, name);
+    gateway.inspect_second(4900, name);
+    gateway.connect_two(4900, name, &Tacks(&[(new, true)]));
+    gateway.connect_two(4900, name, &Tacks(&[(new, true), (new, true)]));
+    gateway.connect_two(5700, name, &Tacks(&[(old, false), (new, true)]));
+    gateway.connect_two(5800, name, &Tacks(&[(new, true)]));
+    gateway.inspect(5800, name);
+    gateway.inspect_second(5800, name);
+    gateway.connect(5800, name, &Shown::Nothing);
+    gateway.delete(5800, name);
+}
+
+/// The first two stories on one table, the third on one of edition two.
 fn report() -> String {
-    let mut gateway = Gateway::default();
+    let mut gateway = Gateway::of_edition(Edition::One);
     clinic(&mut gateway);
     school(&mut gateway);
+    let mut gateway_two = Gateway::of_edition(Edition::Two);
+    pharmacy(&mut gateway_two);
     format!(
-        "{:>5}  {:<22}  {:<40}  number  alert\n{}",
-        "clock", "name", "shown", gateway.report
+        "{:>5}  {:<22}  {:<40}  number  alert\n{}{}",
+        "clock", "name", "shown", gateway.report, gateway_two.report
     )
 }
 

@@ -1,4 +1,4 @@
-//! The TACK extension: reader, parts and writers.
+//! The TACK extension of edition one: reader, parts and writers. [`extension_two`](crate::extension_two) has edition two.
 //!
 //! ```
 //! use tack::extension::{self, Extension};
@@ -32,7 +32,7 @@ pub const MAX_LENGTH: usize = 1194;
 /// The bytes that the signature of a tack covers.
 pub const SIGNED_LENGTH: usize = 110;
 
-/// The bytes are no well-formed extension.
+/// The bytes are no well-formed extension of edition one.
 #[derive(Debug, Clone, Copy, PartialEq, Eq)]
 pub struct Malformed;
 
@@ -42,7 +42,7 @@ impl Malformed {
         16
     }
 
-    /// The TLS alert that goes with it: decode_error.
+    /// The TLS alert that goes with it in edition one: decode_error.
     pub fn alert(self) -> u8 {
         50
     }
@@ -56,10 +56,10 @@ impl fmt::Display for Malformed {
 
 impl std::error::Error for Malformed {}
 
-/// Why a writer wrote nothing.
+/// Why a writer wrote nothing, in either edition.
 #[derive(Debug, Clone, Copy, PartialEq, Eq)]
 pub enum WriteError {
-    /// A part has a length, or the activation a value, that no extension can have.
+    /// A part has a length, or the activation or the flags a value, that no extension can have.
     BadPart,
     /// The output is too small.
     NoSpace,
@@ -84,7 +84,7 @@ impl fmt::Display for WriteError {
     fn fmt(&self, f: &mut fmt::Formatter<'_>) -> fmt::Result {
         f.write_str(match self {
             WriteError::BadPart => {
-                "a part of the extension has a wrong length, or the activation is neither 0 nor 1"
+                "a part of the extension has a wrong length, or the activation or the flags a wrong value"
             }
             WriteError::NoSpace => "the output is too small",
         })
@@ -119,7 +119,7 @@ impl<'a> Extension<'a> {
 
     /// The tack, if the extension holds one.
     pub fn tack(&self) -> Option<Tack<'a>> {
-        self.tack.try_into().ok().map(Tack)
+        Tack::of(self.tack)
     }
 
     /// The bytes that hold the tack: 166, or none.
@@ -145,11 +145,16 @@ impl<'a> Extension<'a> {
     }
 }
 
-/// A tack: a public key's promise for a target hash.
+/// A tack: a public key's promise for a target hash. It is the same in both editions.
 #[derive(Debug, Clone, Copy, PartialEq, Eq)]
 pub struct Tack<'a>(&'a [u8; TACK_LENGTH]);
 
 impl<'a> Tack<'a> {
+    /// The bytes as a tack, if there are 166.
+    pub(crate) fn of(bytes: &'a [u8]) -> Option<Tack<'a>> {
+        bytes.try_into().ok().map(Tack)
+    }
+
     /// The tack key, as the two coordinates of a P-256 point.
     pub fn public_key(&self) -> &'a [u8] {
         &self.0[..64]
@@ -197,7 +202,8 @@ impl<'a> BreakSignature<'a> {
     }
 }
 
-fn written(answer: raw::Writing) -> Result<usize, WriteError> {
+/// A writer's answer.
+pub(crate) fn written(answer: raw::Writing) -> Result<usize, WriteError> {
     match answer.number {
         9 => Ok(answer.written),
         25 => Err(WriteError::BadPart),

@@ -3,9 +3,10 @@
 //! The work is done by `libtack.a`, whose every function is proved to meet its contract. This crate adds the field's names,
 //! lifetimes and error types, and nothing of its own: each function makes one call of the C interface.
 //!
-//! * [`extension`]: the TACK extension (May 2012 draft) read and written.
-//! * [`table`]: the pin table, by which connections are judged.
-//! * [`night`]: a night of recorded calls, which the program `replay` reads.
+//! * [`extension`]: the TACK extension of edition one (May 2012 draft) read and written.
+//! * [`extension_two`]: the same of edition two, which holds one or two tacks.
+//! * [`table`]: the pin table, by which connections of either edition are judged.
+//! * [`night`]: a night of recorded calls of edition one, which the program `replay` reads.
 //! * [`is_host_name`]: whether the store takes a name.
 //! * [`raw`]: the C interface on slices, with the papers' own numbers.
 //!
@@ -16,6 +17,7 @@
 #![deny(unsafe_op_in_unsafe_fn)]
 
 pub mod extension;
+pub mod extension_two;
 pub mod night;
 pub mod raw;
 pub mod table;

@@ -1,4 +1,4 @@
-//! A night of recorded calls: what a gateway keeps of its connections, and the program `replay` reads.
+//! A night of recorded calls, all of edition one: what a gateway keeps of its connections, and the program `replay` reads.
 //!
 //! Two connections of one server are recorded, 600 minutes apart. A replay judges them from an empty table, the first as
 //! unpinned and the second as confirmed:
@@ -42,7 +42,7 @@
 //! ```
 
 use crate::raw;
-use crate::table::{self, Connection};
+use crate::table::Connection;
 use std::fmt;
 
 /// The bytes of the longest recorded call.
@@ -77,7 +77,7 @@ impl std::error::Error for NotRecordable {}
 pub fn record(connection: &Connection, night: &mut Vec<u8>) -> Result<(), NotRecordable> {
     let mut call = [0; LONGEST_CALL];
     // There is always space, so 25 is the only refusal.
-    let answer = raw::call_write(&table::arguments(connection), &mut call);
+    let answer = raw::call_write(&connection.arguments(), &mut call);
     if answer.number != 9 {
         return Err(NotRecordable);
     }

@@ -10,7 +10,7 @@ pub struct Reading {
     pub number: u8,
     /// The TLS alert that goes with the number, or 0.
     pub alert: u8,
-    /// 0 disabled, 1 enabled.
+    /// 0 disabled, 1 enabled; in edition two the flags.
     pub activation: u8,
 }
 
@@ -36,11 +36,11 @@ pub struct Writing {
     pub written: usize,
 }
 
-/// A verdict, 0 to 2, or a refusal, 10 to 23.
+/// A verdict, 0 to 2, or a refusal, 10 to 24 or 27.
 #[repr(C)]
 #[derive(Debug, Clone, Copy, PartialEq, Eq)]
 pub struct Judgement {
-    /// 0 to 2, or 10 to 23.
+    /// 0 to 2, 10 to 24, or 27.
     pub number: u8,
     /// The TLS alert that goes with the number, or 0.
     pub alert: u8,
@@ -58,7 +58,7 @@ pub struct Outcome {
     pub alert: u8,
 }
 
-/// 5 without an end, 6 with one, 4 where the name is not recorded, or 10 to 13; a field without meaning is 0.
+/// 5 without an end, 6 with one, 4 where there is no such record, or 10 to 13; a field without meaning is 0.
 #[repr(C)]
 #[derive(Debug, Clone, Copy, PartialEq, Eq)]
 pub struct Inspection {
@@ -99,6 +99,27 @@ pub struct Connection<'a> {
     pub breaks_correct: u8,
 }
 
+/// The arguments of `tack2_judge` besides the table.
+#[derive(Debug, Clone, Copy)]
+pub struct ConnectionTwo<'a> {
+    /// Minutes since 1970.
+    pub clock: u64,
+    /// The server's host name: A-Z is taken as a-z.
+    pub name: &'a [u8],
+    /// Whether an extension came.
+    pub extension_came: bool,
+    /// Its bytes, ignored where none came.
+    pub extension: &'a [u8],
+    /// The SHA-256 of the server's SubjectPublicKeyInfo.
+    pub spki_sha256: &'a [u8],
+    /// Whether the handshake finished.
+    pub handshake_finished: bool,
+    /// Bit 0 says that the key of the first tack is a P-256 point, bit 1 that the key of the second is.
+    pub keys_are_points: u8,
+    /// Bit 0 says that the signature of the first tack is correct, bit 1 that the signature of the second is.
+    pub signatures_correct: u8,
+}
+
 mod library {
     use super::{Inspection, Judgement, Outcome, Reading, Span, Writing};
 
@@ -113,6 +134,15 @@ mod library {
             breaks: *const u8,
             breaks_length: usize,
             activation: u8,
+            out: *mut u8,
+            out_length: usize,
+        ) -> Writing;
+        pub fn tack2_extension_read(bytes: *const u8, length: usize) -> Reading;
+        pub fn tack2_extension_tack(bytes: *const u8, length: usize, second: bool) -> Span;
+        pub fn tack2_extension_write(
+            tacks: *const u8,
+            tacks_length: usize,
+            flags: u8,
             out: *mut u8,
             out_length: usize,
         ) -> Writing;
@@ -139,6 +169,21 @@ mod library {
             signature_correct: bool,
             breaks_correct: u8,
         ) -> Judgement;
+        pub fn tack2_judge(
+            table: *mut u8,
+            table_length: usize,
+            clock: u64,
+            name: *const u8,
+            name_length: usize,
+            extension_came: bool,
+            extension: *const u8,
+            extension_length: usize,
+            spki_sha256: *const u8,
+            spki_sha256_length: usize,
+            handshake_finished: bool,
+            keys_are_points: u8,
+            signatures_correct: u8,
+        ) -> Judgement;
         pub fn tack_delete(
             table: *mut u8,
             table_length: usize,
@@ -151,8 +196,9 @@ mod library {
             name: *const u8,
             name_length: usize,
             clock: u64,
+            second: bool,
         ) -> Inspection;
-        pub fn tack_start(table: *mut u8, table_length: usize) -> Outcome;
+        pub fn tack_start(table: *mut u8, table_length: usize, edition_two: bool) -> Outcome;
         pub fn tack_call_write(
             clock: u64,
             name: *const u8,
@@ -206,6 +252,32 @@ pub fn extension_write(tack: &[u8], breaks: &[u8], activation: u8, out: &mut [u8
     }
 }
 
+/// `tack2_extension_read`, whose activation holds the flags.
+pub fn extension_two_read(bytes: &[u8]) -> Reading {
+    // SAFETY: the pointer and the length are those of one slice.
+    unsafe { library::tack2_extension_read(bytes.as_ptr(), bytes.len()) }
+}
+
+/// `tack2_extension_tack`: the first tack, or the second.
+pub fn extension_two_tack(bytes: &[u8], second: bool) -> Span {
+    // SAFETY: the pointer and the length are those of one slice.
+    unsafe { library::tack2_extension_tack(bytes.as_ptr(), bytes.len(), second) }
+}
+
+/// `tack2_extension_write`.
+pub fn extension_two_write(tacks: &[u8], flags: u8, out: &mut [u8]) -> Writing {
+    // SAFETY: each pointer goes with the length of its slice, and `out` overlaps no other.
+    unsafe {
+        library::tack2_extension_write(
+            tacks.as_ptr(),
+            tacks.len(),
+            flags,
+            out.as_mut_ptr(),
+            out.len(),
+        )
+    }
+}
+
 /// `tack_signed_bytes`.
 pub fn signed_bytes(tack: &[u8], out: &mut [u8]) -> Writing {
     // SAFETY: each pointer goes with the length of its slice, and `out` overlaps no other.
@@ -241,14 +313,36 @@ pub fn judge(table: &mut [u8], connection: &Connection) -> Judgement {
     }
 }
 
+/// `tack2_judge`.
+pub fn judge_two(table: &mut [u8], connection: &ConnectionTwo) -> Judgement {
+    // SAFETY: each pointer goes with the length of its slice, and `table` overlaps no other.
+    unsafe {
+        library::tack2_judge(
+            table.as_mut_ptr(),
+            table.len(),
+            connection.clock,
+            connection.name.as_ptr(),
+            connection.name.len(),
+            connection.extension_came,
+            connection.extension.as_ptr(),
+            connection.extension.len(),
+            connection.spki_sha256.as_ptr(),
+            connection.spki_sha256.len(),
+            connection.handshake_finished,
+            connection.keys_are_points,
+            connection.signatures_correct,
+        )
+    }
+}
+
 /// `tack_delete`, which takes A-Z as a-z.
 pub fn delete(table: &mut [u8], name: &[u8]) -> Outcome {
     // SAFETY: each pointer goes with the length of its slice, and `table` does not overlap `name`.
     unsafe { library::tack_delete(table.as_mut_ptr(), table.len(), name.as_ptr(), name.len()) }
 }
 
-/// `tack_inspect`, which takes A-Z as a-z.
-pub fn inspect(table: &[u8], name: &[u8], clock: u64) -> Inspection {
+/// `tack_inspect`, which takes A-Z as a-z: the first record of the name, or the second.
+pub fn inspect(table: &[u8], name: &[u8], clock: u64, second: bool) -> Inspection {
     // SAFETY: each pointer goes with the length of its slice.
     unsafe {
         library::tack_inspect(
@@ -257,14 +351,15 @@ pub fn inspect(table: &[u8], name: &[u8], clock: u64) -> Inspection {
             name.as_ptr(),
             name.len(),
             clock,
+            second,
         )
     }
 }
 
 /// `tack_start`.
-pub fn start(table: &mut [u8]) -> Outcome {
+pub fn start(table: &mut [u8], edition_two: bool) -> Outcome {
     // SAFETY: the pointer and the length are those of one slice.
-    unsafe { library::tack_start(table.as_mut_ptr(), table.len()) }
+    unsafe { library::tack_start(table.as_mut_ptr(), table.len(), edition_two) }
 }
 
 /// `tack_call_write`.

@@ -49,13 +49,18 @@
 //! assert_eq!(pins.judge(&Connection { clock: 2200, ..silent })?.verdict, Verdict::Unpinned);
 //! # Ok::<(), Refusal>(())
 //! ```
+//!
+//! A table is of one [`Edition`] of the draft. [`PinTable::judge_two`] tells how a server of edition two moves from one key to
+//! another through two tacks.
 
 mod answer;
 mod connection;
+mod edition;
 mod refusal;
 
 pub use answer::{Deletion, Inspection, Judgement, Verdict};
-pub use connection::Connection;
+pub use connection::{Connection, ConnectionTwo};
+pub use edition::Edition;
 pub use refusal::Refusal;
 
 use crate::raw;
@@ -64,7 +69,10 @@ use std::fmt;
 /// The bytes of a pin table.
 pub const AREA_LENGTH: usize = 39_432;
 
-/// Pins of up to 128 names under up to 64 keys.
+/// Where the edition stands: 0 for edition one, 1 for edition two.
+const EDITION_AT: usize = 4;
+
+/// Up to 128 pins of names under up to 64 keys.
 ///
 /// A name is spelled in letters of either case: every call takes A-Z as a-z, and the table keeps small letters only.
 ///
@@ -108,7 +116,7 @@ pub const AREA_LENGTH: usize = 39_432;
 /// for name in [desk.name, library.name] {
 ///     let refusal = pins.judge(&Connection { name, extension: Some(&second), ..desk }).unwrap_err();
 ///     assert_eq!(refusal, Refusal::GenerationRevoked);
-///     assert_eq!((refusal.number(), refusal.alert()), (22, 44));
+///     assert_eq!((refusal.number(), refusal.alert(pins.edition())), (22, 44));
 /// }
 ///
 /// // The break signature, shown at one name, takes the key's pins at both.
@@ -126,13 +134,27 @@ pub struct PinTable {
 }
 
 impl PinTable {
-    /// An empty table.
+    /// An empty table of edition one.
     pub fn new() -> PinTable {
+        PinTable::of_edition(Edition::One)
+    }
+
+    /// An empty table of either edition.
+    pub fn of_edition(edition: Edition) -> PinTable {
         let mut table = PinTable {
             area: Box::new([0; AREA_LENGTH]),
         };
-        table.start();
+        table.start(edition);
         table
+    }
+
+    /// The table's edition.
+    pub fn edition(&self) -> Edition {
+        match self.area[EDITION_AT] {
+            0 => Edition::One,
+            // A sound table has no other byte there than 0 and 1.
+            _ => Edition::Two,
+        }
     }
 
     /// A table from bytes that [`PinTable::as_bytes`] gave, or from any others: 10 and 11 are the refusals.
@@ -148,7 +170,7 @@ impl PinTable {
     /// ```
     pub fn from_bytes(bytes: &[u8]) -> Result<PinTable, Refusal> {
         // Any name would do: inspection looks at the table first.
-        let number = raw::inspect(bytes, b"a", 0).number;
+        let number = raw::inspect(bytes, b"a", 0, false).number;
         if number >= 10 {
             return Err(refusal(number));
         }
@@ -163,22 +185,72 @@ impl PinTable {
         &self.area
     }
 
-    /// Judges one finished connection and brings the table up to date.
+    /// Judges one finished connection of edition one and brings the table up to date. By a table of edition two it is refused
+    /// with [`Refusal::OtherEdition`].
     pub fn judge(&mut self, connection: &Connection) -> Result<Judgement, Refusal> {
-        let answer = raw::judge(&mut self.area[..], &arguments(connection));
-        let verdict = match answer.number {
-            0 => Verdict::Unpinned,
-            1 => Verdict::Confirmed,
-            2 => Verdict::Contradicted,
-            number => return Err(refusal(number)),
-        };
-        Ok(Judgement {
-            verdict,
-            no_room: answer.no_room,
-        })
+        judgement(raw::judge(&mut self.area[..], &connection.arguments()))
     }
 
-    /// Removes a name's record, and its key if no name is left on it; 12 is the only refusal.
+    /// Judges one finished connection of edition two and brings the table up to date. By a table of edition one it is refused
+    /// with [`Refusal::OtherEdition`].
+    ///
+    /// A server moves from one key to another. Meanwhile it shows the tacks of both; once the new key's pin stands, it disables
+    /// the old tack, and drops it when the old pin has ended:
+    ///
+    /// ```
+    /// # use tack::extension_two;
+    /// # use tack::table::{ConnectionTwo, Edition, PinTable, Refusal, Verdict};
+    /// /// An extension with tacks of these keys, each of generation 3 and without an expiration, and with these flags.
+    /// fn showing(keys: &[u8], flags: u8) -> Vec<u8> {
+    ///     let tack = |key: &u8| [&[*key; 64][..], &[3, 3], &[0xff; 4], &[0x77; 32], &[0x55; 64]].concat();
+    ///     let tacks: Vec<u8> = keys.iter().flat_map(tack).collect();
+    ///     let mut bytes = vec![0; 3 + tacks.len()];
+    ///     extension_two::write(&tacks, flags, &mut bytes).expect("its parts have the right lengths");
+    ///     bytes
+    /// }
+    ///
+    /// let (old, new) = (0x11, 0x22);
+    /// let connection = ConnectionTwo {
+    ///     clock: 1000,
+    ///     name: b"desk.clinic.example",
+    ///     extension: None,
+    ///     spki_sha256: &[0x77; 32],
+    ///     handshake_finished: true,
+    ///     keys_are_points: [true, true],
+    ///     signatures_correct: [true, true],
+    /// };
+    /// let mut pins = PinTable::of_edition(Edition::Two);
+    /// let mut verdict = |clock, extension: &[u8]| {
+    ///     let shown = ConnectionTwo { clock, extension: Some(extension), ..connection };
+    ///     pins.judge_two(&shown).map(|judgement| judgement.verdict)
+    /// };
+    ///
+    /// // The old key's pin is made, and activated for 600 minutes from 1600 on.
+    /// let old_alone = showing(&[old], 0b1);
+    /// assert_eq!(verdict(1000, &old_alone)?, Verdict::Unpinned);
+    /// assert_eq!(verdict(1600, &old_alone)?, Verdict::Unpinned);
+    ///
+    /// // The new key beside it gets a pin of its own; shown alone it would be contradicted.
+    /// let both = showing(&[old, new], 0b11);
+    /// assert_eq!(verdict(1700, &both)?, Verdict::Confirmed);
+    /// assert_eq!(verdict(1900, &both)?, Verdict::Confirmed);
+    /// let new_alone = showing(&[new], 0b1);
+    /// assert_eq!(verdict(1900, &new_alone)?, Verdict::Contradicted);
+    ///
+    /// // The old tack, disabled, is shown until its pin ends at 2800. Then the new pin stands alone.
+    /// let old_disabled = showing(&[old, new], 0b10);
+    /// assert_eq!(verdict(2700, &old_disabled)?, Verdict::Confirmed);
+    /// assert_eq!(verdict(2800, &new_alone)?, Verdict::Confirmed);
+    /// let record = pins.inspect(b"desk.clinic.example", 2800)?.expect("it is recorded");
+    /// assert_eq!((record.initial, record.minutes_left), (1700, Some(1100)));
+    /// assert_eq!(pins.inspect_second(b"desk.clinic.example", 2800)?, None);
+    /// # Ok::<(), Refusal>(())
+    /// ```
+    pub fn judge_two(&mut self, connection: &ConnectionTwo) -> Result<Judgement, Refusal> {
+        judgement(raw::judge_two(&mut self.area[..], &connection.arguments()))
+    }
+
+    /// Removes a name's record, in edition two both records, and each key if no name is left on it; 12 is the only refusal.
     ///
     /// ```
     /// use tack::table::{Deletion, PinTable, Refusal};
@@ -195,30 +267,25 @@ impl PinTable {
         }
     }
 
-    /// Looks at a name's record; 12 and 13 are the refusals. The clock may lie before that of the latest connection.
+    /// Looks at a name's record, in edition two at the first by the order of the slots; 12 and 13 are the refusals. The clock
+    /// may lie before that of the latest connection.
     pub fn inspect(&self, name: &[u8], clock: u64) -> Result<Option<Inspection>, Refusal> {
-        let answer = raw::inspect(&self.area[..], name, clock);
-        let has_end = match answer.number {
-            4 => return Ok(None),
-            5 => false,
-            6 => true,
-            number => return Err(refusal(number)),
-        };
-        Ok(Some(Inspection {
-            floor: answer.floor,
-            initial: answer.initial,
-            end: has_end.then_some(answer.end),
-            minutes_left: has_end.then_some(answer.minutes_left),
-        }))
+        inspection(raw::inspect(&self.area[..], name, clock, false))
     }
 
-    /// Empties the table.
-    pub fn start(&mut self) {
+    /// Looks at a name's second record in the same way. Only in edition two there may be one.
+    pub fn inspect_second(&self, name: &[u8], clock: u64) -> Result<Option<Inspection>, Refusal> {
+        inspection(raw::inspect(&self.area[..], name, clock, true))
+    }
+
+    /// Empties the table, for this edition.
+    pub fn start(&mut self, edition: Edition) {
         // The only refusal is that of another length.
-        raw::start(&mut self.area[..]);
+        raw::start(&mut self.area[..], edition == Edition::Two);
     }
 }
 
+/// An empty table of edition one.
 impl Default for PinTable {
     fn default() -> PinTable {
         PinTable::new()
@@ -232,19 +299,34 @@ impl fmt::Debug for PinTable {
     }
 }
 
-/// The connection as the C interface takes it.
-pub(crate) fn arguments<'a>(connection: &Connection<'a>) -> raw::Connection<'a> {
-    raw::Connection {
-        clock: connection.clock,
-        name: connection.name,
-        extension_came: connection.extension.is_some(),
-        extension: connection.extension.unwrap_or(&[]),
-        spki_sha256: connection.spki_sha256,
-        handshake_finished: connection.handshake_finished,
-        key_is_point: connection.key_is_point,
-        signature_correct: connection.signature_correct,
-        breaks_correct: connection.breaks_correct,
-    }
+/// The verdict, or the refusal.
+fn judgement(answer: raw::Judgement) -> Result<Judgement, Refusal> {
+    let verdict = match answer.number {
+        0 => Verdict::Unpinned,
+        1 => Verdict::Confirmed,
+        2 => Verdict::Contradicted,
+        number => return Err(refusal(number)),
+    };
+    Ok(Judgement {
+        verdict,
+        no_room: answer.no_room,
+    })
+}
+
+/// The record, if there is one, or the refusal.
+fn inspection(answer: raw::Inspection) -> Result<Option<Inspection>, Refusal> {
+    let has_end = match answer.number {
+        4 => return Ok(None),
+        5 => false,
+        6 => true,
+        number => return Err(refusal(number)),
+    };
+    Ok(Some(Inspection {
+        floor: answer.floor,
+        initial: answer.initial,
+        end: has_end.then_some(answer.end),
+        minutes_left: has_end.then_some(answer.minutes_left),
+    }))
 }
 
 /// The refusal of a number that is none of the call's own.

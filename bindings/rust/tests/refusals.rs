@@ -1,10 +1,10 @@
-//! Every refusal of the judge through the safe crate: its number, its alert, and a table that stays as it was.
+//! Every refusal of the judge of edition one through the safe crate: its number, its alert, and a table that stays as it was.
 
 mod common;
 
 use common::{good, shown, HASH};
 use tack::raw;
-use tack::table::{Connection, PinTable, Refusal};
+use tack::table::{Connection, Edition, PinTable, Refusal};
 
 #[test]
 fn each_refusal_of_the_judge() {
@@ -34,7 +34,7 @@ fn each_refusal_of_the_judge() {
         let refusal = pins.judge(&connection).expect_err("it is refused");
         assert_eq!(Some(refusal), Refusal::of(number));
         assert_eq!(
-            refusal.alert(),
+            refusal.alert(Edition::One),
             library_alert(&pins, &connection),
             "{refusal}"
         );
@@ -70,6 +70,26 @@ fn a_kept_table_goes_on() {
         again.inspect(b"a.b", 4_294_924_096),
         Err(Refusal::ClockAboveLimit)
     );
-    pins.start();
+    pins.start(Edition::One);
     assert!(pins == PinTable::new());
+}
+
+#[test]
+fn a_table_of_edition_two_is_the_other_edition() {
+    let third = shown(3, 3, u32::MAX);
+    let mut pins = PinTable::of_edition(Edition::Two);
+    let before = pins.clone();
+    // 27 comes before 12, whatever else is wrong.
+    let malformed = Connection {
+        name: b"",
+        ..good(&third)
+    };
+    for connection in [good(&third), malformed] {
+        assert_eq!(pins.judge(&connection), Err(Refusal::OtherEdition));
+        assert_eq!(library_alert(&pins, &connection), 0);
+        assert!(pins == before);
+    }
+    for edition in [Edition::One, Edition::Two] {
+        assert_eq!(Refusal::OtherEdition.alert(edition), 0);
+    }
 }

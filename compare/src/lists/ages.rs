@@ -25,16 +25,21 @@ impl Ages {
         connection: &Connection,
         answer: &Answer,
     ) -> Result<(), String> {
-        let Some(initial) = own_initial(area, connection) else {
-            return Ok(());
-        };
-        match (connection.clock.cmp(&u64::from(initial)), answer.number) {
+        match own_initial(area, connection) {
+            Some(initial) => self.add_record(initial, connection.clock, answer.number),
+            None => Ok(()),
+        }
+    }
+
+    /// The same for a record of which that is known.
+    pub fn add_record(&mut self, initial: u32, clock: u64, number: u8) -> Result<(), String> {
+        match (clock.cmp(&u64::from(initial)), number) {
             (Ordering::Less, 14) => self.before_initial += 1,
             (Ordering::Less, number) => {
                 return Err(format!("a clock before initial was answered {number}"));
             }
             (Ordering::Equal, 0..=2) => self.none += 1,
-            (Ordering::Greater, 0..=2) => self.extended(connection.clock - u64::from(initial)),
+            (Ordering::Greater, 0..=2) => self.extended(clock - u64::from(initial)),
             _ => {}
         }
         Ok(())
@@ -49,9 +54,9 @@ impl Ages {
     }
 
     /// The verdict: every age came.
-    pub fn report(&self) -> Result<(), String> {
+    pub fn report(&self, what: &str) -> Result<(), String> {
         println!(
-            "pins extended: {} in the minute of initial, {} less than thirty days after it, {} just then, {} later; {} times the clock was before it",
+            "{what} extended: {} in the minute of initial, {} less than thirty days after it, {} just then, {} later; {} times the clock was before it",
             self.none, self.shorter, self.thirty_days, self.longer, self.before_initial
         );
         let all = [

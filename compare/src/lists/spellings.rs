@@ -46,14 +46,13 @@ impl Spellings {
     }
 
     /// The verdict: every spelling came, and with capitals every number that a call with a name can have.
-    pub fn report(&self) -> Result<(), String> {
-        let numbers: Vec<u8> = (0..=6).chain(10..=23).collect();
+    pub fn report(&self, what: &str, numbers: &[u8]) -> Result<(), String> {
         self.numbers
-            .report("calls of lists with capitals", &numbers)?;
+            .report(&format!("{what} with capitals"), numbers)?;
         let (one, some, all) = (self.one_capital, self.some_capitals, self.all_capitals);
         let mixed = self.mixed;
         println!(
-            "spellings: {one} with one capital, {some} with some, {all} with all; {mixed} times a name in several in one list"
+            "spellings in {what}: {one} with one capital, {some} with some, {all} with all; {mixed} times a name in several in one list"
         );
         all_came("a spelling", &[one, some, all, mixed])
     }

@@ -46,8 +46,8 @@ example-report =
     let e₃ = report-line (first ∷ []) (two ++ []) [] (shownAt 1600) [] (reads-back (shownAt 1600) [] (recordable-shown 1600 refl)) in
     let e₄ : reportFrom (first ∷ []) (two ++ []) ≡ reportFrom (first ∷ []) ((two ++ []) ++ []) = ap (reportFrom (first ∷ [])) (sym (append-nil (two ++ []))) in
     let e₅ = report-end (judge (shownAt 1600) ∷ first ∷ []) [] nothing-recorded in
-    let a₁ : line 0 (answer (folded first) (areaOf [])) ≡ lineOf 0 0 false = ap (line 0) e4-right in
-    let a₂ : line 1 (answer (folded (judge (shownAt 1600))) (areaOf (first ∷ []))) ≡ lineOf 1 1 false = ap (line 1) e5-right in
+    let a₁ : line 0 (answer (folded first) (areaOf false [])) ≡ lineOf 0 0 false = ap (line 0) e4-right in
+    let a₂ : line 1 (answer (folded (judge (shownAt 1600))) (areaOf false (first ∷ []))) ≡ lineOf 1 1 false = ap (line 1) e5-right in
     let tail : reportFrom (first ∷ []) (two ++ []) ≡ lineOf 1 1 false ++ totalLine 2 =
     e₄ ∙ e₃ ∙ ap (λ (l : List ℕ). l ++ reportFrom (judge (shownAt 1600) ∷ first ∷ []) []) a₂ ∙ ap (λ (l : List ℕ). lineOf 1 1 false ++ l) e₅ in
     let whole : reportFrom [] (one ++ two) ≡ lineOf 0 0 false ++ (lineOf 1 1 false ++ totalLine 2) =

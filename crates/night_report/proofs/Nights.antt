@@ -47,7 +47,7 @@ night-by (b ∷ s) =
 module _ (earlier : List Call) (window more : List ℕ) where
   -- a call in front of what was read so far
   pub report-line : (c : Connection) (rest : List ℕ) → recorded window ≡ taken c rest
-      → reportFrom earlier (window ++ more) ≡ line (length earlier) (answer (folded (judge c)) (areaOf earlier)) ++ reportFrom (judge c ∷ earlier) (rest ++ more)
+      → reportFrom earlier (window ++ more) ≡ line (length earlier) (answer (folded (judge c)) (areaOf false earlier)) ++ reportFrom (judge c ∷ earlier) (rest ++ more)
   unfolding reportFrom lines
   report-line c rest e =
       let night : nightOf (window ++ more) ≡ before c (nightOf (rest ++ more)) =
@@ -55,7 +55,7 @@ module _ (earlier : List Call) (window more : List ℕ) where
       let others = nightOf (rest ++ more) in
       let size : length earlier + suc (length (others .calls)) ≡ suc (length earlier) + length (others .calls) = omega arith in
       ap (λ (n : Night). lines earlier (n .calls) ++ closing (length earlier + length (n .calls)) (n .whole)) night
-      ∙ rw size (append-assoc (line (length earlier) (answer (folded (judge c)) (areaOf earlier))) (lines (judge c ∷ earlier) (others .calls)) (closing (suc (length earlier) + length (others .calls)) (others .whole)))
+      ∙ rw size (append-assoc (line (length earlier) (answer (folded (judge c)) (areaOf false earlier))) (lines (judge c ∷ earlier) (others .calls)) (closing (suc (length earlier) + length (others .calls)) (others .whole)))
 
   -- what no further bytes make a call
   pub report-bad : recorded window ≡ bad → reportFrom earlier (window ++ more) ≡ badLine

@@ -1,5 +1,6 @@
 -- The report's lines are the same in every spelling of the names. Assumes nothing.
 use mathlib.Core.Path.{_≡_, refl, ap, ap₂}
+use mathlib.Core.Bool.{false}
 use mathlib.Core.List.{List, [], _∷_, _++_, map}
 use Prim.Native.Nat.{ℕ, suc}
 use lib.ListN.{length}
@@ -18,5 +19,5 @@ pub same-lines : (earlier others : List Call) (cs ds : List Connection) → AllR
 unfolding lines
 same-lines earlier others [] [] before now = refl
 same-lines earlier others (c ∷ cs) (d ∷ ds) before (each r rs) =
-    ap₂ _++_ (ap₂ line (same-length before) (one-run earlier others before .1 (judge c) (judge d) r))
+    ap₂ _++_ (ap₂ line (same-length before) (one-run false earlier others before .1 (judge c) (judge d) r))
     (same-lines (judge c ∷ earlier) (judge d ∷ others) cs ds (each r before) rs)

@@ -1,7 +1,7 @@
 -- 'E4 and E5 on standard input give exactly `0 0 0 0` and `1 1 0 0`, then .. `total 2`' (document 02, Q-1). Assumes nothing.
 use mathlib.Core.Path.{_≡_}
 use mathlib.Core.Bool.{true}
-use mathlib.Core.List.{List, [], _∷_, _++_}
+use mathlib.Core.List.{[], _∷_, _++_}
 use Prim.Native.Nat.{ℕ}
 use Rattle.tack_extension.specs.Extension.{parts, bytesOf}
 use Rattle.pin_model.specs.Judge.{Connection, connection}

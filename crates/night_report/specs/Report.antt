@@ -70,11 +70,11 @@ nightWithin (suc most) s = nightBy (nightWithin most) s (recorded s)
 unfoldable pub nightOf : List ℕ → Night
 nightOf s = nightWithin (length s) s
 
--- 'The program starts from an empty table': the lines of calls behind earlier ones, the newest of which comes first, in the very
--- run of demand 3
+-- 'The program starts from an empty table', that of edition one: the lines of calls behind earlier ones, the newest of which comes
+-- first, in the very run of demand 3
 unfoldable pub lines : List Call → List Connection → List ℕ
 lines earlier [] = []
-lines earlier (c ∷ cs) = line (length earlier) (answer (folded (judge c)) (areaOf earlier)) ++ lines (judge c ∷ earlier) cs
+lines earlier (c ∷ cs) = line (length earlier) (answer (folded (judge c)) (areaOf false earlier)) ++ lines (judge c ∷ earlier) cs
 
 -- 'ends the report without a total'
 abbrev pub closing : ℕ → Bool → List ℕ
@@ -90,7 +90,7 @@ reportFrom earlier s =
 unfoldable pub report : List ℕ → List ℕ
 report s = reportFrom [] s
 
--- 'the list of answers': the numbers of calls, the newest first, as the tally counts them
+-- 'the list of answers': the numbers of calls from that table, the newest first, as the tally counts them
 unfoldable pub numbers : List Call → List ℕ
 numbers [] = []
-numbers (c ∷ cs) = numberOf c cs ∷ numbers cs
+numbers (c ∷ cs) = numberOf false c cs ∷ numbers cs

@@ -1,11 +1,13 @@
--- The number of document 01 and the values for every case of an answer, by 'What each number says'. Assumes nothing.
-use mathlib.Core.Bool.{Bool, false}
+-- The papers' number and the values for every case of an answer: document 01, 'What each number says', and document 02, Q-3.
+-- Assumes nothing.
+use mathlib.Core.Bool.{false}
 use mathlib.Core.Option.{Option, none, some}
 use Prim.Native.Nat.{ℕ}
 use lib.IntN.{pos}
 use Rattle.pin_model.specs.Calls.{Answer, plain}
+use Rattle.pin_model.specs.Calls as calls
 use Rattle.pin_answers.specs.declared.Refusal.{Refusal}
-use Rattle.pin_answers.specs.declared.Refusal.the-variants.{AreaLength, Damaged, NameMalformed, ClockAboveLimit, ClockBeforeLatest, HandshakeUnfinished, ExtensionMalformed, BreakIncorrect, KeyNoPoint, GenerationBelowOwn, TargetUnequal, SignatureIncorrect, Revoked, Expired}
+use Rattle.pin_answers.specs.declared.Refusal.the-variants.{AreaLength, Damaged, NameMalformed, ClockAboveLimit, ClockBeforeLatest, HandshakeUnfinished, ExtensionMalformed, BreakIncorrect, KeyNoPoint, GenerationBelowOwn, TargetUnequal, SignatureIncorrect, Revoked, Expired, OneKeyTwice, OtherEdition}
 use Rattle.pin_answers.specs.declared.Checked.{Checked}
 use Rattle.pin_answers.specs.declared.Checked.the-variants as checked
 use Rattle.pin_answers.specs.declared.Verdict.{Verdict}
@@ -34,6 +36,8 @@ refusalNumber TargetUnequal = 20
 refusalNumber SignatureIncorrect = 21
 refusalNumber Revoked = 22
 refusalNumber Expired = 23
+refusalNumber OneKeyTwice = 24
+refusalNumber OtherEdition = 27
 
 -- the number of a test that refused, none where it passed
 abbrev pub checkedNumber : Checked → Option ℕ
@@ -46,8 +50,7 @@ verdictNumber Confirmed = 1
 verdictNumber Contradicted = 2
 
 abbrev pub judgementAnswer : Judgement → Answer
-judgementAnswer (judgement.Judged v full) =
-    record { number = verdictNumber v; noRoom = full; floor = 0; initial = 0; end = 0; minutesLeft = pos 0 }
+judgementAnswer (judgement.Judged v full) = calls.judgement (verdictNumber v) full
 judgementAnswer (judgement.Refused r) = plain (refusalNumber r)
 
 abbrev pub deletionAnswer : Deletion → Answer

@@ -1,9 +1,9 @@
-// What the store answers: an enum for each kind of call, and the numbers and alerts of document 01 for every case.
+// What the store answers: an enum for each kind of call, and the papers' numbers and alerts for every case.
 ghost use mathlib.Core.Path.{_≡_};
-ghost use Rattle.tack_extension.specs.Answers.{alertOf};
-ghost use Rattle.pin_answers.specs.Numbers.{refusalNumber, verdictNumber, judgementNumber, deletionNumber, inspectionNumber, startingNumber};
+ghost use Rattle.tack_extension.specs.Answers.{alertOf, alertOfTwo, badCertificate};
+ghost use Rattle.pin_answers.specs.Numbers.{refusalNumber, verdictNumber, judgementNumber, deletionNumber, startingNumber};
 
-// The refusals, in the paper's order.
+// The refusals, by their numbers. 17 is edition one's alone, 24 edition two's.
 pub enum Refusal {
     AreaLength,
     Damaged,
@@ -19,6 +19,8 @@ pub enum Refusal {
     SignatureIncorrect,
     Revoked,
     Expired,
+    OneKeyTwice,
+    OtherEdition,
 }
 
 // What a test of a call's input gives.
@@ -82,6 +84,8 @@ pub fn refusal_number(r: Refusal) -> u8
         Refusal::SignatureIncorrect => 21,
         Refusal::Revoked => 22,
         Refusal::Expired => 23,
+        Refusal::OneKeyTwice => 24,
+        Refusal::OtherEdition => 27,
     }
 }
 
@@ -158,4 +162,21 @@ pub fn alert_of(number: u8) -> u8
         return 45;
     }
     0
+}
+
+// Whether edition two answers the number with alert 42.
+fn bad_certificate(number: u8) -> bool
+    ensures { λ r. ⌜ r ≡ badCertificate number ⌝ }
+{
+    (number == 16) | ((18 <= number) & (number <= 21)) | (number == 24)
+}
+
+// The TLS alert of a number in edition two.
+pub fn alert_of_two(number: u8) -> u8
+    ensures { λ n. ⌜ n ≡ alertOfTwo number ⌝ }
+{
+    if bad_certificate(number) {
+        return 42;
+    }
+    alert_of(number)
 }

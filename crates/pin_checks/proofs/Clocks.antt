@@ -1,7 +1,7 @@
 -- What the kind of a caller's clock says of it. Assumes nothing.
-use mathlib.Core.Path.{_≡_, refl, sym, ap, _∙_}
-use mathlib.Core.Bool.{Bool, true, false, cond}
-use Prim.Native.Nat.{ℕ, _≤_, _<_}
+use mathlib.Core.Path.{_≡_, ap, _∙_}
+use mathlib.Core.Bool.{true, false}
+use Prim.Native.Nat.{ℕ, _≤_}
 use native.Mathlib.Omega.{arith}
 use lib.Dec.{leb, ltb}
 use borrow.Author.Tests.{leb-true, leb-false, lt-ltb, le-ltb}
@@ -10,7 +10,6 @@ use Rattle.tack_extension.proofs.Steps.{clash}
 use Rattle.pin_model.specs.Table.{clockLimit}
 use Rattle.pin_table.specs.Clocks.{clockOf}
 use Rattle.pin_table.specs.declared.minutes.Minutes.{Minutes}
-use Rattle.pin_table.specs.declared.minutes.Clock.{Clock}
 use Rattle.pin_table.specs.declared.minutes.Clock.the-variants.{At, AboveLimit}
 
 pub above : (clock : ℕ) → AboveLimit ≡ clockOf clock → ltb clockLimit clock ≡ true

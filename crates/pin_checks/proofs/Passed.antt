@@ -18,7 +18,7 @@ use Rattle.pin_model.proofs.Refusals.{AreaFacts, area-facts}
 use Rattle.pin_model.proofs.SoundArea.{SoundArea, sound-decode, sound-fits}
 use Rattle.pin_model.proofs.SoundFacts.{SoundFacts, sound-facts}
 use Rattle.pin_model.proofs.AreaKept.{refused-same, granted-after}
-use Rattle.pin_records.specs.Holds.{Holds, Stored}
+use Rattle.pin_records.specs.Holds.{Stored}
 use Rattle.pin_checks.specs.Tests.{namedTests}
 
 -- the tests of a list in two parts
@@ -79,12 +79,13 @@ pub ready : (b : List ℕ) (later : List (Bool × ℕ)) → Bytes b → first (a
 ready b later byte e =
     let area : AreaFacts b = area-facts b later e in
     let found : SoundArea b = sound-decode b byte (area .areaSound) in
+    let facts : SoundFacts (decode b) = sound-facts (decode b) (found .table) in
     record {
       stored = record {
         bytes = sym (found .bytes);
         long = area .areaLong;
         fits = sound-fits b byte (area .areaSound);
-        nameOnce = sound-facts (decode b) (found .table) .nameOnce;
+        distinct = record { few = facts .nameFew; once = facts .pinOnce };
       };
       tableSound = found .table;
     }

@@ -1,27 +1,17 @@
 -- E1 to E12 and the spellings of Q-2 hold: computed on the model's tables, and carried over to bytes by the run. Assumes nothing.
 use mathlib.Core.Path.{_≡_, refl, _∙_}
-use mathlib.Core.List.{List}
-use Rattle.octets.specs.Octets.{part, same, bigEndian, number, numberAfter}
-use Rattle.host_name.specs.Name.{isLabel, betweenDots, wellFormed}
-use Rattle.host_name.specs.Folding.{foldedName}
-use Rattle.tack_extension.specs.Extension.{bytesOf, tackStep, breaksStep, activationStep, parse}
-use Rattle.tack_extension.specs.Tack.{publicKey, targetHash, breakKey, eachBreak, breakSignatures}
+use mathlib.Core.Bool.{false}
+use Rattle.octets.specs.Octets.{number, numberAfter}
+use Rattle.tack_extension.specs.Extension.{tackStep, breaksStep, activationStep, parse}
 use Rattle.pin_model.specs.Layout.{joined, encodeKey, encodeName, encode}
-use Rattle.pin_model.specs.Judge.{partsOf, tackShown, enabled, breaksShown, brokenKeys, judged, noRoom, verdict}
-use Rattle.pin_model.specs.Calls.{Call, folded, Answer}
 use Rattle.pin_journal.specs.Demand3.{areaOf}
-use Rattle.pin_journal.proofs.TableRun.{tableRefusal, tableAnswer, tableNext, tableRun}
 use Rattle.pin_journal.proofs.Main.{area-run, answer-run}
 use Rattle.pin_examples.specs.Examples.{ReadingRight, Row, Right, after, Every, nothing, _also_, e4, e4Area, e5, e5Inspected, e6, e7, e8, e8Inspected, e9, e10, e11, e12At1000, e12At1001, spelledMade, spelledConfirmed, spelledContradicted, spelledInspected, spelledAZ, spelledBeforeA, spelledBehindZ, readingExamples, spelledExamples, Examples}
+use Rattle.pin_examples.proofs.Model.{modelAnswer}
 
--- what a call is answered on the model's tables, after a history: where it unfolds, all that it is made of computes
-unfoldable modelAnswer : List Call → Call → Answer
-unfolding tableRun tableNext tableRefusal tableAnswer judged noRoom verdict partsOf tackShown enabled breaksShown brokenKeys publicKey targetHash breakKey eachBreak breakSignatures bytesOf tackStep breaksStep activationStep parse isLabel betweenDots wellFormed foldedName part same bigEndian number numberAfter
-modelAnswer history call = tableAnswer (folded call) (tableRun history)
-
-right : (r : Row) → modelAnswer (r .history) (r .call) ≡ r .gives → Right r
+right : (r : Row) → modelAnswer false (r .history) (r .call) ≡ r .gives → Right r
 unfolding modelAnswer
-right r e = answer-run (r .call) (r .history) ∙ e
+right r e = answer-run false (r .call) (r .history) ∙ e
 
 e1-e2-e3-right : Every ReadingRight readingExamples
 unfolding parse tackStep breaksStep activationStep number numberAfter
@@ -31,9 +21,9 @@ pub e4-right : Right e4
 unfolding modelAnswer
 e4-right = right e4 refl
 
-e4-bytes : areaOf (after e4) ≡ e4Area
+e4-bytes : areaOf false (after e4) ≡ e4Area
 unfolding modelAnswer encode joined encodeKey encodeName e4Area
-e4-bytes = area-run (after e4) ∙ refl
+e4-bytes = area-run false (after e4) ∙ refl
 
 pub e5-right : Right e5
 unfolding modelAnswer

@@ -10,7 +10,7 @@ use Rattle.octets.specs.Octets.{bigEndian}
 use Rattle.tack_extension.specs.Extension.{parts, bytesOf, parse}
 use Rattle.tack_extension.specs.Answers.{readingOf, readingNumber}
 use Rattle.pin_model.specs.Judge.{connection}
-use Rattle.pin_model.specs.Calls.{Call, judge, inspect, folded, Answer, plain, answer}
+use Rattle.pin_model.specs.Calls.{Call, judge, inspect, Answer, plain, answered}
 use Rattle.pin_journal.specs.Demand3.{areaOf}
 
 -- bytes, and the number that the reader answers with
@@ -28,7 +28,7 @@ pub record Row : Type 0 where
   pub gives : Answer
 
 abbrev pub Right : Row → Type 0
-Right r = answer (folded (r .call)) (areaOf (r .history)) ≡ r .gives
+Right r = answered (r .call) (areaOf false (r .history)) ≡ r .gives
 
 abbrev pub row : List Call → Call → Answer → Row
 row history call gives = record { history = history; call = call; gives = gives }
@@ -108,7 +108,7 @@ e5 = row (after e4) (withTack 1600 (tack 3 3 later)) (plain 1)
 -- E5's end, as an inspection shows it
 abbrev pub e5Inspected : Row
 e5Inspected =
-    row (after e5) (inspect host 1600)
+    row (after e5) (inspect false host 1600)
     (record { number = 6; noRoom = false; floor = 3; initial = 1000; end = 2200; minutesLeft = pos 600 })
 
 -- E6: 'then no extension at 2199: contradicted'
@@ -126,7 +126,7 @@ e8 = row (after e4) (withTack 100000 (tack 3 3 later)) (plain 1)
 -- E8's end, as an inspection shows it
 abbrev pub e8Inspected : Row
 e8Inspected =
-    row (after e8) (inspect host 100000)
+    row (after e8) (inspect false host 100000)
     (record { number = 6; noRoom = false; floor = 3; initial = 1000; end = 143200; minutesLeft = pos 43200 })
 
 -- E9: 'from E4, K with generation 2 and min_generation 2: 22'
@@ -175,7 +175,7 @@ spelledContradicted = row (after spelledConfirmed) (noExtensionAs capitals 2199)
 -- the end of that pin, a minute before it
 abbrev pub spelledInspected : Row
 spelledInspected =
-    row (after spelledConfirmed) (inspect mixed 2199)
+    row (after spelledConfirmed) (inspect false mixed 2199)
     (record { number = 6; noRoom = false; floor = 3; initial = 1000; end = 2200; minutesLeft = pos 1 })
 
 -- 'A-Z' and no byte beside them, 'Refusal 12 narrows': `A.Z` passes, `@.Z` and `A.[` give 12
@@ -203,5 +203,5 @@ spelledExamples =
 pub record Examples : Type 0 where
   pub readings : Every ReadingRight readingExamples
   pub rows : Every Right examples
-  pub e4Bytes : areaOf (after e4) ≡ e4Area
+  pub e4Bytes : areaOf false (after e4) ≡ e4Area
   pub spellings : Every Right spelledExamples

@@ -1,1 +1,1 @@
-// The worked examples E1 to E12, and spellings of one name: definitions and theorems alone.
+// The worked examples E1 to E12, spellings of one name, and examples for edition two: definitions and theorems alone.

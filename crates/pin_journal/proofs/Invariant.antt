@@ -4,15 +4,19 @@ use mathlib.Core.Bool.{Bool, true, false, cond, false≢true}
 use mathlib.Core.List.{List, [], _∷_}
 use Prim.Native.Nat.{ℕ, _≤_, max}
 use native.Mathlib.Omega.{arith}
+use lib.Dec.{eqb}
 use Rattle.pin_model.specs.Table.{clockLimit, Table, empty, without}
 use Rattle.pin_model.specs.Judge.{Connection, tackShown, judged}
-use Rattle.pin_model.specs.Calls.{Call, judge, delete, start}
+use Rattle.pin_model.specs.JudgeTwo.{ConnectionTwo, tacksShown, raisedTwo, contradicted, judgedTwo}
+use Rattle.pin_model.specs.Calls.{Call, judge, judgeTwo, delete, start}
 use Rattle.pin_model.proofs.Lists.{struck-any}
 use Rattle.pin_model.proofs.SoundFacts.{SoundFacts}
-use Rattle.pin_journal.specs.Journal.{Row, Entry, rowOf, rowKey, taught, unbroken, journal, stands, since, highest, isVerdict, tackOfCall, shownUnder}
+use Rattle.pin_model.proofs.TwoFacts.{ConnectionTwoFacts}
+use Rattle.pin_journal.specs.Journal.{Row, Entry, rowOf, rowKey, taught, unbroken, journal, stands, since, highest, taughtTwo, isVerdict, tacksOfCall, shownUnder}
 use Rattle.pin_journal.proofs.Agreement.{Agrees, refloored}
 use Rattle.pin_journal.proofs.Steps.{without-agrees}
 use Rattle.pin_journal.proofs.Judging.{Learned, judged-learned}
+use Rattle.pin_journal.proofs.JudgingTwo.{judged-two-learned}
 
 abbrev pub Invariant : Table → List Entry → Type 0
 Invariant t entries = Agrees t (journal entries) (λ k. highest k (since k entries))
@@ -22,7 +26,7 @@ entry call n = record { call = call; number = n }
 
 -- what one call with its number showed under a key
 abbrev pub shownBy : List ℕ → Entry → ℕ
-shownBy k e = cond (isVerdict (e .number)) (shownUnder k (tackOfCall (e .call))) 0
+shownBy k e = cond (isVerdict (e .number)) (shownUnder k (tacksOfCall (e .call))) 0
 
 -- 'since that record was made, the making call included', one call later
 pub highest-since : (k : List ℕ) (e : Entry) (es : List Entry) → stands k (journal (e ∷ es)) ≡ true
@@ -52,18 +56,18 @@ idle t e es invariant rows nothing =
     (λ k stood. rw (nothing k, sym (ap (stands k) rows) ∙ stood) (omega arith))
 
 -- 'It begins empty.'
-pub begin : Invariant empty []
+pub begin : (two : Bool) → Invariant (empty two) []
 unfolding journal since
-begin =
+begin two =
     record {
       sameNames = λ p. refl;
       sameFloors = λ k p. refl;
     }
 
 -- 'starting strikes all rows'
-pub start-invariant : (es : List Entry) → Invariant empty (entry start 7 ∷ es)
+pub start-invariant : (two : Bool) (es : List Entry) → Invariant (empty two) (entry (start two) 7 ∷ es)
 unfolding journal since
-start-invariant es = entered empty (entry start 7) es (λ k. 0) begin (λ k stood. absurd (false≢true stood))
+start-invariant two es = entered (empty two) (entry (start two) 7) es (λ k. 0) (begin two) (λ k stood. absurd (false≢true stood))
 
 -- 'Deletion strikes the name's row'
 pub delete-invariant : (name : List ℕ) (t : Table) (es : List Entry) → Invariant t es → Invariant (without name t) (entry (delete name) 3 ∷ es)
@@ -72,17 +76,28 @@ delete-invariant name t es invariant =
     entered (without name t) (entry (delete name) 3) es (λ k. highest k (since k es)) (without-agrees name invariant)
     (λ k stood. rw (struck-any (rowKey k) (rowOf name) (journal es) stood) (omega arith))
 
--- 'Judging with a verdict'
+-- 'Judging with a verdict', in either edition
+module _ (call : Call) (t after : Table) (es : List Entry) (n : ℕ) (verdict : isVerdict n ≡ true) (rowsAfter : List Row) where
+  learned-invariant : journal (entry call n ∷ es) ≡ cond (isVerdict n) rowsAfter (journal es)
+      → Learned (tacksOfCall call) (journal es) (λ k. highest k (since k es)) after rowsAfter → Invariant after (entry call n ∷ es)
+  learned-invariant written l =
+      let rows : journal (entry call n ∷ es) ≡ rowsAfter = written ∙ ap (λ (b : Bool). cond b rowsAfter (journal es)) verdict in
+      entered after (entry call n) es (l .floorAfter)
+      (subst (λ (r : List Row). Agrees after r (l .floorAfter)) (sym rows) (l .agrees))
+      (λ k stood.
+      l .highest k (sym (ap (stands k) rows) ∙ stood)
+      ∙ ap (λ (b : Bool). max (cond b (shownUnder k (tacksOfCall call)) 0) (cond (stands k (journal es)) (highest k (since k es)) 0)) (sym verdict))
+
 pub judge-invariant : (c : Connection) (t : Table) (es : List Entry) (n : ℕ) → isVerdict n ≡ true → Invariant t es → SoundFacts t
-    → t .latest ≤ c .clock → c .clock ≤ clockLimit → Invariant (judged c t) (entry (judge c) n ∷ es)
+    → t .two ≡ false → t .latest ≤ c .clock → c .clock ≤ clockLimit → Invariant (judged c t) (entry (judge c) n ∷ es)
 unfolding journal
-judge-invariant c t es n verdict invariant facts inOrder inLimit =
-    let l : Learned (tackShown c) (journal es) (λ k. highest k (since k es)) (judged c t) (unbroken c (taught c (tackShown c) (journal es))) =
-    judged-learned c t (journal es) (λ k. highest k (since k es)) invariant facts inOrder inLimit in
-    let rows : journal (entry (judge c) n ∷ es) ≡ unbroken c (taught c (tackShown c) (journal es)) =
-    ap (λ (b : Bool). cond b (unbroken c (taught c (tackShown c) (journal es))) (journal es)) verdict in
-    entered (judged c t) (entry (judge c) n) es (l .floorAfter)
-    (subst (λ (r : List Row). Agrees (judged c t) r (l .floorAfter)) (sym rows) (l .agrees))
-    (λ k stood.
-    l .highest k (sym (ap (stands k) rows) ∙ stood)
-    ∙ ap (λ (b : Bool). max (cond b (shownUnder k (tackShown c)) 0) (cond (stands k (journal es)) (highest k (since k es)) 0)) (sym verdict))
+judge-invariant c t es n verdict invariant facts one inOrder inLimit =
+    learned-invariant (judge c) t (judged c t) es n verdict (unbroken c (taught c (tackShown c) (journal es))) refl
+    (judged-learned c t (journal es) (λ k. highest k (since k es)) invariant facts one inOrder inLimit)
+
+pub judge-two-invariant : (c : ConnectionTwo) (t : Table) (es : List Entry) (n : ℕ) → isVerdict n ≡ true → contradicted (c .name) (c .clock) (tacksShown c) (raisedTwo c t) ≡ eqb n 2
+    → Invariant t es → SoundFacts t → ConnectionTwoFacts c t → Invariant (judgedTwo c t) (entry (judgeTwo c) n ∷ es)
+unfolding journal
+judge-two-invariant c t es n verdict its invariant facts passed =
+    learned-invariant (judgeTwo c) t (judgedTwo c t) es n verdict (taughtTwo c n (journal es)) refl
+    (judged-two-learned c t (journal es) (λ k. highest k (since k es)) invariant facts passed n its)

@@ -5,19 +5,17 @@ use mathlib.Core.List.{List, [], _∷_, _++_, map}
 use mathlib.Core.Option.{Option, none, some}
 use Prim.Native.Nat.{ℕ}
 use lib.Dec.{ltb}
-use lib.IntN.{pos}
 use Rattle.octets.specs.Octets.{number, numberAfter}
 use Rattle.host_name.specs.Name.{wellFormed}
 use Rattle.tack_extension.specs.Extension.{Parts, parse, tackStep, breaksStep, activationStep, tackOf, breaksOf}
 use Rattle.tack_extension.specs.Tack.{breakKey, breakSignatures}
-use Rattle.pin_model.specs.Table.{clockLimit, Table}
+use Rattle.pin_model.specs.Table.{clockLimit, Table, settledAt}
 use Rattle.pin_model.specs.Layout.{encode, decode}
-use Rattle.pin_model.specs.Judge.{Connection, connection, partsOf, tackShown, enabled, breaksShown, brokenKeys, unlessEmpty, allCorrect, isNone, isEnabled, connectionTests, learn, lacksRoom, judged, noRoom, verdict}
-use Rattle.pin_model.specs.Calls.{Answer, judge, first, areaTests, refusal, granted, tableAfter, answerBy, answer, areaBy, areaAfter}
+use Rattle.pin_model.specs.Judge.{Connection, connection, partsOf, tackShown, enabled, breaksShown, brokenKeys, unlessEmpty, allCorrect, isNone, isEnabled, learn, lacksRoom, judged, noRoom, verdict}
+use Rattle.pin_model.specs.Calls.{Answer, judge, first, areaTests, refusal, tableAfter, judgement, granted, answerBy, answer, areaBy, areaAfter}
 use Rattle.pin_tests.specs.Tests.{tackTests}
-use Rattle.pin_checks.specs.Tests.{namedTests}
 use Rattle.pin_steps.specs.Steps.{breakBy, verdictBy}
-use Rattle.pin_judge.specs.Applied.{learnBy, crowdedBy, settled, appliedBy, appliedAnswer}
+use Rattle.pin_judge.specs.Applied.{learnBy, crowdedBy, appliedBy, appliedAnswer}
 
 -- the steps of any connection, by its parts
 module _ (c : Connection) (t : Table) where
@@ -32,33 +30,30 @@ module _ (c : Connection) (t : Table) where
   pub after-by : tableAfter (judge c) t ≡ appliedBy (isEnabled (partsOf c)) (c .name) (c .clock) (tackOf (partsOf c)) (breaksOf (partsOf c)) t
   unfolding judged enabled tackShown breaksShown brokenKeys
   after-by =
-      ap (λ (u : Table). settled (c .clock) (breakBy (map breakKey (breakSignatures (breaksOf (partsOf c)))) u))
+      ap (λ (u : Table). settledAt (c .clock) (breakBy (map breakKey (breakSignatures (breaksOf (partsOf c)))) u))
       (learn-by (unlessEmpty (tackOf (partsOf c))))
 
   pub granted-by : granted (judge c) t ≡ appliedAnswer (isEnabled (partsOf c)) (c .name) (c .clock) (tackOf (partsOf c)) (breaksOf (partsOf c)) t
   unfolding noRoom verdict enabled tackShown
   granted-by =
-      ap₂ (λ (u : Table) (full : Bool). record {
-        number = verdictBy (c .name) (c .clock) (unlessEmpty (tackOf (partsOf c))) u;
-        noRoom = full;
-        floor = 0;
-        initial = 0;
-        end = 0;
-        minutesLeft = pos 0;
-      }) after-by (lacks-by (unlessEmpty (tackOf (partsOf c))))
+      ap₂ (λ (u : Table) (full : Bool). judgement (verdictBy (c .name) (c .clock) (unlessEmpty (tackOf (partsOf c))) u) full)
+      after-by (lacks-by (unlessEmpty (tackOf (partsOf c))))
 
 -- the refusals, the answer and the area, by the parts
 module _ (clock : ℕ) (name hash : List ℕ) (finished point correct : Bool) (bits : ℕ) where
   abbrev pub partTests : Option Parts → Table → List (Bool × ℕ)
   partTests p t =
-      (ltb clock (t .latest), 14)
+      (t .two, 27)
+      ∷ (not (wellFormed name), 12)
+      ∷ (ltb clockLimit clock, 13)
+      ∷ (ltb clock (t .latest), 14)
       ∷ (not finished, 15)
       ∷ (isNone p, 16)
       ∷ (not (allCorrect (breakSignatures (breaksOf p)) bits), 17)
       ∷ tackTests (unlessEmpty (tackOf p)) point hash correct clock t
 
   abbrev pub partRefusal : Option Parts → List ℕ → Option ℕ
-  partRefusal p b = first (namedTests b name ++ ((ltb clockLimit clock, 13) ∷ partTests p (decode b)))
+  partRefusal p b = first (areaTests b ++ partTests p (decode b))
 
   unfoldable pub partAnswer : Option Parts → List ℕ → Answer
   partAnswer p b = answerBy (partRefusal p b) (appliedAnswer (isEnabled p) name clock (tackOf p) (breaksOf p) (decode b))

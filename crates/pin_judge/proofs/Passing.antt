@@ -1,5 +1,5 @@
--- The area's refusals; where an extension came, the later ones, what is known where none applies, and the answer then. Assumes nothing.
-use mathlib.Core.Path.{_≡_, refl, sym, ap, ap₂, _∙_}
+-- The area's refusals and its edition's; where an extension came, the later ones, what is known where none applies, and the answer then. Assumes nothing.
+use mathlib.Core.Path.{_≡_, sym, ap, ap₂, _∙_}
 use mathlib.Core.Bool.{Bool, true, false, cond}
 use mathlib.Core.List.{List, [], _∷_, _++_}
 use mathlib.Core.Option.{Option, none, some}
@@ -18,8 +18,8 @@ use Rattle.tack_extension.proofs.RoundTrip.{reads-good}
 use Rattle.pin_model.specs.Table.{clockLimit}
 use Rattle.pin_model.specs.Layout.{encode, decode}
 use Rattle.pin_model.specs.Sound.{sound}
-use Rattle.pin_model.specs.Judge.{Connection, connection, partsOf, tackShown, breaksShown, isNone, isEnabled, connectionTests}
-use Rattle.pin_model.specs.Calls.{Answer, plain, judge, first, areaTests, refusal, answer, areaAfter}
+use Rattle.pin_model.specs.Judge.{Connection, connection, partsOf, tackShown, breaksShown, isNone, isEnabled}
+use Rattle.pin_model.specs.Calls.{Answer, plain, judge, first, areaTests, laterTests, refusal, answer, areaAfter}
 use Rattle.pin_model.proofs.First.{passed}
 use Rattle.pin_answers.specs.Numbers.{checkedNumber}
 use Rattle.pin_answers.specs.declared.Checked.{Checked}
@@ -34,7 +34,12 @@ use Rattle.pin_judge.proofs.ByParts.{granted-by, after-by}
 -- 10 and 11 come first, whatever the connection
 pub refused-area : (c : Connection) (b : List ℕ) (n : ℕ) → first (areaTests b) ≡ some n → (plain n ≡ answer (judge c) b) × (b ≡ areaAfter (judge c) b)
 unfolding refusal
-refused-area c b n e = call-refused (judge c) b n (first-here (areaTests b) (connectionTests c (decode b)) n e)
+refused-area c b n e = call-refused (judge c) b n (first-here (areaTests b) (laterTests (judge c) (decode b)) n e)
+
+-- then 27
+pub refused-edition : (c : Connection) (b : List ℕ) → sound b ≡ true → decode b .two ≡ true → (plain 27 ≡ answer (judge c) b) × (b ≡ areaAfter (judge c) b)
+unfolding refusal
+refused-edition c b h two = call-refused (judge c) b 27 (first-later (areaTests b) (laterTests (judge c) (decode b)) (area-passes b h) ∙ rw two)
 
 -- what the reader's answer says of the parts
 pub record Sized (s : List ℕ) (a : ℕ) : Type 0 where
@@ -70,15 +75,15 @@ module _ (clock : ℕ) (name bytes hash : List ℕ) (finished point correct : Bo
   abbrev later : List (Bool × ℕ)
   later = (ltb clockLimit clock, 13) ∷ shownTests clock finished bytes bits point hash correct (decode b)
 
-  refusal-shown : refusal (judge it) b ≡ first (namedTests b name ++ later)
+  refusal-shown : decode b .two ≡ false → refusal (judge it) b ≡ first (namedTests b name ++ later)
   unfolding refusal partsOf tackShown breaksShown tackPart breaksPart
-  refusal-shown = refl
+  refusal-shown one = rw one
 
-  pub refused-named : (n : ℕ) → first (namedTests b name) ≡ some n → (plain n ≡ answer (judge it) b) × (b ≡ areaAfter (judge it) b)
-  refused-named n e = call-refused (judge it) b n (refusal-shown ∙ first-here (namedTests b name) later n e)
+  pub refused-named : decode b .two ≡ false → (n : ℕ) → first (namedTests b name) ≡ some n → (plain n ≡ answer (judge it) b) × (b ≡ areaAfter (judge it) b)
+  refused-named one n e = call-refused (judge it) b n (refusal-shown one ∙ first-here (namedTests b name) later n e)
 
-  pub refused-late : first (namedTests b name) ≡ none → ltb clockLimit clock ≡ true → (plain 13 ≡ answer (judge it) b) × (b ≡ areaAfter (judge it) b)
-  refused-late named late = call-refused (judge it) b 13 (refusal-shown ∙ first-later (namedTests b name) later named ∙ simp late)
+  pub refused-late : decode b .two ≡ false → first (namedTests b name) ≡ none → ltb clockLimit clock ≡ true → (plain 13 ≡ answer (judge it) b) × (b ≡ areaAfter (judge it) b)
+  refused-late one named late = call-refused (judge it) b 13 (refusal-shown one ∙ first-later (namedTests b name) later named ∙ simp late)
 
   -- 14 to 23
   abbrev shown : Option ℕ
@@ -87,7 +92,7 @@ module _ (clock : ℕ) (name bytes hash : List ℕ) (finished point correct : Bo
   module _ (h : sound b ≡ true) (known : Admitted b name clock) where
     then : refusal (judge it) b ≡ shown
     then =
-        refusal-shown
+        refusal-shown (known .ofOne)
         ∙ first-later (namedTests b name) later (named-passes b name (area-passes b h) (known .nameFormed))
         ∙ ap (λ (o : Bool). cond o (some 13) shown) (le-ltb clockLimit clock (known .clockInLimit))
 
@@ -115,8 +120,8 @@ module _ (clock : ℕ) (name bytes hash : List ℕ) (finished point correct : Bo
     pub passed-read : isNone (parse bytes) ≡ false
     passed-read = testAt 2
 
--- 10 to 13
-pub sound-admitted : (b name : List ℕ) (clock : ℕ) → Bytes b → sound b ≡ true → wellFormed name ≡ true → clock ≤ clockLimit → Admitted b name clock
-sound-admitted b name clock byte h formed inLimit =
+-- 10, 11, 27, 12 and 13
+pub sound-admitted : (b name : List ℕ) (clock : ℕ) → Bytes b → sound b ≡ true → decode b .two ≡ false → wellFormed name ≡ true → clock ≤ clockLimit → Admitted b name clock
+sound-admitted b name clock byte h one formed inLimit =
     let found : Ready b = ready b [] byte (area-passes b h) in
-    record { stored = found .stored; tableSound = found .tableSound; nameFormed = formed; clockInLimit = inLimit }
+    record { stored = found .stored; tableSound = found .tableSound; ofOne = one; nameFormed = formed; clockInLimit = inLimit }

@@ -4,19 +4,18 @@ use mathlib.Core.Bool.{Bool, true, false}
 use mathlib.Core.List.{List, map}
 use mathlib.Core.Option.{Option, none, some}
 use Prim.Native.Nat.{ℕ, _≤_}
-use lib.IntN.{pos}
 use Rattle.tack_extension.specs.Tack.{breakKey, breakSignatures}
-use Rattle.pin_model.specs.Table.{clockLimit, Table, soundTable}
+use Rattle.pin_model.specs.Table.{clockLimit, Table, settledAt, soundTable}
 use Rattle.pin_model.specs.Layout.{encode, decode}
 use Rattle.pin_model.specs.Judge.{raise, create, unlessEmpty}
-use Rattle.pin_model.specs.Calls.{Answer}
+use Rattle.pin_model.specs.Calls.{judgement}
 use Rattle.pin_model.proofs.Initials.{BegunBy, record-initial}
 use Rattle.pin_records.specs.Holds.{Holds, withLatest}
 use Rattle.pin_records.proofs.HeldSlots.{holds-decode, holds-stored}
 use Rattle.pin_steps.specs.Steps.{of, extendBy, crowded, breakBy, verdictBy}
 use Rattle.pin_judge.specs.Known.{InOrder}
-use Rattle.pin_judge.specs.Applied.{learnBy, crowdedBy, settled, appliedBy, appliedAnswer}
-use Rattle.pin_judge.proofs.Learnt.{extended-sound}
+use Rattle.pin_judge.specs.Applied.{learnBy, crowdedBy, appliedBy, appliedAnswer}
+use Rattle.pin_judge.proofs.Learnt.{extended-sound, learnt-edition}
 
 -- what the answer of steps 1 and 2 says, by the tack that is shown
 abbrev Learnt : Bool → List ℕ → ℕ → Table → Bool → List ℕ → Option (List ℕ) → Type 0
@@ -34,8 +33,12 @@ module _ (on : Bool) (name : List ℕ) (clock : ℕ) (tack : List ℕ) (t : Tabl
 
   -- u is what steps 1 and 2(i) left
   module _ (u : Table) (its : u ≡ extendBy on name tack clock (raise tack t)) where
-    pub ready-to-create : soundTable t ≡ true → t .latest ≤ clock → clock ≤ clockLimit → soundTable (withLatest u clock) ≡ true
-    ready-to-create h inOrder inLimit = ap (λ (v : Table). soundTable (withLatest v clock)) its ∙ extended-sound on name tack clock t h inOrder inLimit
+    pub ready-to-create : soundTable t ≡ true → t .two ≡ false → t .latest ≤ clock → clock ≤ clockLimit
+        → (soundTable (withLatest u clock) ≡ true) × (u .two ≡ false)
+    ready-to-create h one inOrder inLimit = (
+      ap (λ (v : Table). soundTable (withLatest v clock)) its ∙ extended-sound on name tack clock t h one inOrder inLimit,
+      ap (λ (v : Table). v .two) its ∙ one,
+    )
 
     pub created : {d : List ℕ} {r : Bool} → unlessEmpty tack ≡ some tack
         → (r ≡ crowded name clock tack u) × Holds d (create (of name clock) tack u)
@@ -52,16 +55,15 @@ module _ (on : Bool) (name : List ℕ) (clock : ℕ) (tack breaks : List ℕ) (t
   table-after : decode after ≡ appliedBy on name clock tack breaks t
   table-after =
       holds-decode three
-      ∙ ap (settled clock) (holds-decode two ∙ ap (breakBy (map breakKey (breakSignatures breaks))) (holds-decode (one .1)))
+      ∙ ap (settledAt clock) (holds-decode two ∙ ap (breakBy (map breakKey (breakSignatures breaks))) (holds-decode (one .1)))
 
-  judgedAs : ℕ → Bool → Answer
-  judgedAs n full = record { number = n; noRoom = full; floor = 0; initial = 0; end = 0; minutesLeft = pos 0 }
+  pub still-one : t .two ≡ false → decode after .two ≡ false
+  still-one one = ap (λ (u : Table). u .two) table-after ∙ learnt-edition on name clock (unlessEmpty tack) t ∙ one
 
   pub applied : (n : ℕ) → n ≡ verdictBy name clock (unlessEmpty tack) (decode after)
-      → (_≡_ {A = Answer} (record { number = n; noRoom = full; floor = 0; initial = 0; end = 0; minutesLeft = pos 0 }) (appliedAnswer on name clock tack breaks t))
+      → (judgement n full ≡ appliedAnswer on name clock tack breaks t)
       × (after ≡ encode (appliedBy on name clock tack breaks t))
-  unfolding judgedAs
   applied n e = (
-    ap₂ judgedAs (e ∙ ap (verdictBy name clock (unlessEmpty tack)) table-after) (one .0),
+    ap₂ judgement (e ∙ ap (verdictBy name clock (unlessEmpty tack)) table-after) (one .0),
     holds-stored three .bytes ∙ ap encode table-after,
   )

@@ -4,11 +4,10 @@ use mathlib.Core.Bool.{Bool, false}
 use mathlib.Core.List.{List, map}
 use mathlib.Core.Option.{Option, none, some}
 use Prim.Native.Nat.{ℕ}
-use lib.IntN.{pos}
 use Rattle.tack_extension.specs.Tack.{breakKey, breakSignatures}
-use Rattle.pin_model.specs.Table.{Table, table}
+use Rattle.pin_model.specs.Table.{Table, settledAt}
 use Rattle.pin_model.specs.Judge.{raise, create, unlessEmpty}
-use Rattle.pin_model.specs.Calls.{Answer}
+use Rattle.pin_model.specs.Calls.{Answer, judgement}
 use Rattle.pin_steps.specs.Steps.{of, extendBy, crowded, breakBy, verdictBy}
 
 -- steps 1 and 2, by the tack that is shown; and whether there was no room
@@ -21,20 +20,10 @@ crowdedBy on name clock none t = false
 crowdedBy on name clock (some tack) t = crowded name clock tack (extendBy on name tack clock (raise tack t))
 
 -- steps 1 to 4
-abbrev pub settled : ℕ → Table → Table
-settled clock t = table clock (t .keys) (t .names)
-
 abbrev pub appliedBy : Bool → List ℕ → ℕ → List ℕ → List ℕ → Table → Table
 appliedBy on name clock tack breaks t =
-    settled clock (breakBy (map breakKey (breakSignatures breaks)) (learnBy on name clock (unlessEmpty tack) t))
+    settledAt clock (breakBy (map breakKey (breakSignatures breaks)) (learnBy on name clock (unlessEmpty tack) t))
 
 abbrev pub appliedAnswer : Bool → List ℕ → ℕ → List ℕ → List ℕ → Table → Answer
 appliedAnswer on name clock tack breaks t =
-    record {
-      number = verdictBy name clock (unlessEmpty tack) (appliedBy on name clock tack breaks t);
-      noRoom = crowdedBy on name clock (unlessEmpty tack) t;
-      floor = 0;
-      initial = 0;
-      end = 0;
-      minutesLeft = pos 0;
-    }
+    judgement (verdictBy name clock (unlessEmpty tack) (appliedBy on name clock tack breaks t)) (crowdedBy on name clock (unlessEmpty tack) t)

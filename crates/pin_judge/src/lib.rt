@@ -1,4 +1,4 @@
-// Judging one connection: the refusals in the paper's order, then its steps.
+// Judging one connection for edition one: the refusals in the paper's order, then its steps.
 use host_name::folding;
 use pin_answers::Checked;
 use pin_answers::Judgement;
@@ -11,6 +11,7 @@ use pin_steps::raise;
 use pin_steps::verdict;
 use pin_table::minutes::Clock;
 use pin_table::minutes::Minutes;
+use pin_table::slots;
 use pin_tests::connection;
 use tack_extension::reader;
 use tack_extension::reader::Reading;
@@ -113,7 +114,7 @@ fn judge_at(
     apply_shown(area, name, clock, extension)
 }
 
-// A connection with this extension, on a sound area.
+// A connection with this extension, on a sound area of edition one.
 fn judge_shown(
     area: &mut [u8],
     clock: u64,
@@ -125,7 +126,7 @@ fn judge_shown(
     signature_correct: bool,
     breaks_correct: u8,
 ) -> Judgement
-    requires { ⌜ sound (now area) ≡ true ⌝ }
+    requires { ⌜ (sound (now area) ≡ true) × (decode (now area) .two ≡ false) ⌝ }
     ensures answer { λ r. ⌜ judgementAnswer r ≡ calls.answer (calls.judge (connection clock (now (name .entry)) true (now (extension .entry)) (now (hash .entry)) «handshake_finished» «key_is_point» «signature_correct» «breaks_correct»)) (now (area .entry)) ⌝ }
     ensures area { λ _. ⌜ now (area .exit) ≡ calls.areaAfter (calls.judge (connection clock (now (name .entry)) true (now (extension .entry)) (now (hash .entry)) «handshake_finished» «key_is_point» «signature_correct» «breaks_correct»)) (now (area .entry)) ⌝ }
 {
@@ -151,7 +152,7 @@ fn judge_shown(
 // Where no extension came: what would have come with neither tack nor break signature.
 const NOTHING: [u8; 4] = [0, 0, 0, 0];
 
-// A connection with an extension or without one, on a sound area. The name is taken as it stands.
+// A connection with an extension or without one, on a sound area of edition one. The name is taken as it stands.
 fn judge_folded(
     area: &mut [u8],
     clock: u64,
@@ -164,7 +165,7 @@ fn judge_folded(
     signature_correct: bool,
     breaks_correct: u8,
 ) -> Judgement
-    requires { ⌜ sound (now area) ≡ true ⌝ }
+    requires { ⌜ (sound (now area) ≡ true) × (decode (now area) .two ≡ false) ⌝ }
     ensures answer { λ r. ⌜ judgementAnswer r ≡ calls.answer (calls.judge (connection clock (now (name .entry)) «extension_came» (now (extension .entry)) (now (hash .entry)) «handshake_finished» «key_is_point» «signature_correct» «breaks_correct»)) (now (area .entry)) ⌝ }
     ensures area { λ _. ⌜ now (area .exit) ≡ calls.areaAfter (calls.judge (connection clock (now (name .entry)) «extension_came» (now (extension .entry)) (now (hash .entry)) «handshake_finished» «key_is_point» «signature_correct» «breaks_correct»)) (now (area .entry)) ⌝ }
 {
@@ -212,6 +213,9 @@ pub fn judge_sound_area(
     ensures area { λ _. ⌜ now (area .exit) ≡ calls.areaAfter (calls.folded (calls.judge (connection clock (now (name .entry)) «extension_came» (now (extension .entry)) (now (hash .entry)) «handshake_finished» «key_is_point» «signature_correct» «breaks_correct»))) (now (area .entry)) ⌝ }
     ensures sound { λ _. ⌜ sound (now (area .exit)) ≡ true ⌝ }
 {
+    if slots::is_two(area) {
+        return Judgement::Refused(Refusal::OtherEdition);
+    }
     let mut bytes = [0u8; 254];
     let n = folding::fold(name, &mut bytes);
     let folded: &[u8] = &bytes;
@@ -229,7 +233,8 @@ pub fn judge_sound_area(
     )
 }
 
-// Judges one finished connection: 10 to 23, or a verdict and whether there was no room for a record that it wanted.
+// Judges one finished connection for edition one: 10 to 23, 27, or a verdict and whether there was no room for a record that it
+// wanted.
 pub fn judge(
     area: &mut [u8],
     clock: u64,

@@ -1,35 +1,33 @@
--- Inspection of a name that stands in a slot, and of one that stands in none. Assumes nothing.
+-- Inspection of a name by its first or second record, and of one that has no such record. Assumes nothing.
 use mathlib.Core.Path.{_≡_, refl, sym, ap, _∙_}
-use mathlib.Core.Bool.{Bool, true, false, cond, not, true≢false}
-use mathlib.Core.List.{List, [], _∷_, _++_}
+use mathlib.Core.Bool.{Bool, true, false, true≢false}
+use mathlib.Core.List.{List, [], _∷_}
 use mathlib.Core.Option.{Option, none, some}
-use Prim.Native.Nat.{ℕ, zero, suc, _+_, _≤_, _<_}
+use Prim.Native.Nat.{ℕ, _≤_, _<_}
 use native.Mathlib.Omega.{arith}
 use lib.Dec.{ltb}
 use lib.IntN.{ℤ, pos, _-ℤ_}
-use lib.ListN.{length, getD}
-use Rattle.octets.specs.Octets.{same, any}
+use lib.ListN.{length, getD, List·getD-eq-default}
+use Rattle.octets.specs.Octets.{same}
 use Rattle.octets.proofs.Tests.{byTest}
-use Rattle.octets.proofs.Equal.{same-eq}
-use Rattle.host_name.specs.Name.{wellFormed}
 use Rattle.tack_extension.proofs.Steps.{clash, byOption}
 use Rattle.pin_table.specs.declared.minutes.Minutes.{Minutes}
 use Rattle.pin_model.specs.Slots.{used}
-use Rattle.pin_model.specs.Table.{clockLimit, KeyRecord, NameRecord, Table, keyIs, nameIs}
+use Rattle.pin_model.specs.Table.{clockLimit, KeyRecord, NameRecord, nameIs}
 use Rattle.pin_model.specs.Layout.{decode, placeOf}
-use Rattle.pin_model.specs.Calls.{Answer, first, areaTests, plain, refusal, answer, inspect, floorOf, inspectedWith, inspectedIn}
-use Rattle.pin_model.proofs.Lists.{bit, count, count-some}
-use Rattle.pin_model.proofs.Places.{passes, any-at, some-injective, none-not-some}
+use Rattle.pin_model.specs.Calls.{Answer, first, plain, refusal, answer, inspect, floorOf, inspectedWith, inspectedIn, inspectedSecond, inspectedBy}
 use Rattle.pin_table.specs.declared.slots.NameSlot.{NameSlot}
 use Rattle.pin_records.specs.Holds.{Stored}
-use Rattle.pin_records.specs.Find.{holds, isFree, firstSlot, nameFound, floorAt, initialAt, endAt}
+use Rattle.pin_records.specs.Find.{holds, isFree, firstSlot, secondSlot, nameFound, floorAt, initialAt, endAt}
 use Rattle.pin_records.specs.Read.{endFound, pinnedKey}
 use Rattle.pin_records.specs.declared.read.PinEnd.the-variants as pin-end
 use Rattle.pin_records.specs.declared.find.FoundName.the-variants as name-found
-use Rattle.pin_records.proofs.Found.{FoundAt, name-found-at, name-absent}
+use Rattle.pin_records.proofs.Placed.{first-passes, holds-used}
+use Rattle.pin_records.proofs.Found.{name-there, name-not-there}
+use Rattle.pin_records.proofs.SecondSlots.{second-passes}
 use Rattle.pin_checks.specs.Tests.{namedTests}
 use Rattle.pin_checks.proofs.Passed.{first-here, first-later, call-refused, call-granted}
-use Rattle.pin_manage.specs.Inspected.{inspectedSlot}
+use Rattle.pin_manage.specs.Inspected.{recordSlot, inspectedSlot}
 
 -- the floor in a key's own slot is the floor of the key
 pub floor-placed : (key : List ℕ) (keys : List (Option KeyRecord)) → floorAt (getD keys (placeOf key keys) none) ≡ floorOf key (used keys)
@@ -37,63 +35,73 @@ floor-placed key [] = refl
 floor-placed key (none ∷ keys) = floor-placed key keys
 floor-placed key (some x ∷ keys) = byTest (same (x .key) key) (λ e. simp e) (λ e. simp e (floor-placed key keys))
 
--- the first record of a name is the one in the slot that has it
-module _ (name : List ℕ) (clock : ℕ) (keys : List KeyRecord) where
-  looked-at : (names : List (Option NameRecord)) (n : ℕ) (r : NameRecord) → getD names n none ≡ some r → nameIs name r ≡ true
-      → count (nameIs name) (used names) ≤ 1
-      → inspectedIn name clock keys (used names) ≡ inspectedWith clock (floorOf (r .key) keys) (r .initial) (r .end)
-  looked-at [] n r e h once = absurd (none-not-some e)
-  looked-at (none ∷ names) zero r e h once = absurd (none-not-some e)
-  looked-at (none ∷ names) (suc n) r e h once = looked-at names n r e h once
-  looked-at (some a ∷ names) zero r e h once =
-      let its : a ≡ r = some-injective e in
-      ap (λ (x : NameRecord). cond (nameIs name x) (inspectedWith clock (floorOf (x .key) keys) (x .initial) (x .end)) (inspectedIn name clock keys (used names))) its
-      ∙ simp h
-  looked-at (some a ∷ names) (suc n) r e h once =
-      let later : any (nameIs name) (used names) ≡ true = any-at (nameIs name) names n (ap (passes (nameIs name)) e ∙ h) in
-      let more : 0 < count (nameIs name) (used names) = count-some (nameIs name) (used names) later in
-      byTest (nameIs name a)
-      (λ f. absurd (omega (arith, more, once, ap bit f)))
-      (λ f. simp f (looked-at names n r e h (omega (arith, once, ap bit f))))
+-- what stands in the slot of a name's first or second record; nothing past the last slot
+module _ (name : List ℕ) (clock : ℕ) (keys : List (Option KeyRecord)) where
+  first-inspected : (names : List (Option NameRecord))
+      → inspectedSlot clock keys (getD names (firstSlot (holds (nameIs name)) names) none) ≡ inspectedIn name clock (used keys) (used names)
+  unfolding firstSlot
+  first-inspected [] = refl
+  first-inspected (none ∷ names) = first-inspected names
+  first-inspected (some r ∷ names) = byTest (nameIs name r) (λ e. simp e) (λ e. simp e (first-inspected names))
 
-  missed : (names : List NameRecord) → any (nameIs name) names ≡ false → inspectedIn name clock keys names ≡ plain 4
-  missed [] e = refl
-  missed (r ∷ names) e =
-      byTest (nameIs name r)
-      (λ f. let z : _≡_ {A = Bool} true false = sym (simp f at (sym e)) in absurd (omega (arith, ap bit z)))
-      (λ f. simp f (missed names (simp f at e)))
+  second-inspected : (names : List (Option NameRecord))
+      → inspectedSlot clock keys (getD names (secondSlot (holds (nameIs name)) names) none) ≡ inspectedSecond name clock (used keys) (used names)
+  unfolding secondSlot
+  second-inspected [] = refl
+  second-inspected (none ∷ names) = second-inspected names
+  second-inspected (some r ∷ names) = byTest (nameIs name r) (λ e. simp e (first-inspected names)) (λ e. simp e (second-inspected names))
 
-module _ (b name : List ℕ) (clock : ℕ) where
-  tests-are : (namedTests b name ++ ((ltb clockLimit clock, 13) ∷ [])) ≡ areaTests b ++ ((not (wellFormed name), 12) ∷ (ltb clockLimit clock, 13) ∷ [])
-  tests-are = refl
+  record-inspected : (second : Bool) (names : List (Option NameRecord))
+      → inspectedSlot clock keys (getD names (recordSlot second name names) none) ≡ inspectedBy second name clock (used keys) (used names)
+  record-inspected false = first-inspected
+  record-inspected true = second-inspected
 
-  pub inspect-refused : (n : ℕ) → first (namedTests b name) ≡ some n → plain n ≡ answer (inspect name clock) b
+record-passes : (second : Bool) (name : List ℕ) (names : List (Option NameRecord)) → recordSlot second name names < length names
+    → holds (nameIs name) (getD names (recordSlot second name names) none) ≡ true
+record-passes false name = first-passes (holds (nameIs name))
+record-passes true name = second-passes (holds (nameIs name))
+
+-- the slot that was found is used
+pub record-used : (second : Bool) (name : List ℕ) (names : List (Option NameRecord)) → length names ≡ 128 → (n : NameSlot)
+    → name-found.At n ≡ nameFound (recordSlot second name names) → (n .0 < 128) × (isFree (getD names (n .0) none) ≡ false)
+record-used second name names slots n e =
+    let t = name-there (recordSlot second name names) n e in
+    let here : holds (nameIs name) (getD names (n .0) none) ≡ true =
+    ap (λ (i : ℕ). holds (nameIs name) (getD names i none)) (sym (t .1)) ∙ record-passes second name names (omega (arith, t .0)) in
+    (omega (arith, t .0, t .1), holds-used (nameIs name) (getD names (n .0) none) here)
+
+module _ (second : Bool) (b name : List ℕ) (clock : ℕ) where
+  pub inspect-refused : (n : ℕ) → first (namedTests b name) ≡ some n → plain n ≡ answer (inspect second name clock) b
   unfolding refusal
   inspect-refused n e =
-      call-refused (inspect name clock) b n (first-here (namedTests b name) ((ltb clockLimit clock, 13) ∷ []) n e) .0
+      call-refused (inspect second name clock) b n (first-here (namedTests b name) ((ltb clockLimit clock, 13) ∷ []) n e) .0
 
-  pub inspect-late : first (namedTests b name) ≡ none → ltb clockLimit clock ≡ true → plain 13 ≡ answer (inspect name clock) b
+  pub inspect-late : first (namedTests b name) ≡ none → ltb clockLimit clock ≡ true → plain 13 ≡ answer (inspect second name clock) b
   unfolding refusal
   inspect-late e late =
-      call-refused (inspect name clock) b 13 (first-later (namedTests b name) ((ltb clockLimit clock, 13) ∷ []) e ∙ simp late) .0
+      call-refused (inspect second name clock) b 13 (first-later (namedTests b name) ((ltb clockLimit clock, 13) ∷ []) e ∙ simp late) .0
 
-  inspect-passed : first (namedTests b name) ≡ none → ltb clockLimit clock ≡ false → refusal (inspect name clock) b ≡ none
-  unfolding refusal
-  inspect-passed e inTime = first-later (namedTests b name) ((ltb clockLimit clock, 13) ∷ []) e ∙ simp inTime
+  module _ (e : first (namedTests b name) ≡ none) (inTime : ltb clockLimit clock ≡ false) where
+    inspect-passed : refusal (inspect second name clock) b ≡ none
+    unfolding refusal
+    inspect-passed = first-later (namedTests b name) ((ltb clockLimit clock, 13) ∷ []) e ∙ simp inTime
 
-  module _ (stored : Stored b) (e : first (namedTests b name) ≡ none) (inTime : ltb clockLimit clock ≡ false) where
-    pub inspect-nothing : name-found.Nothing ≡ nameFound (firstSlot (holds (nameIs name)) (decode b .names)) → plain 4 ≡ answer (inspect name clock) b
-    inspect-nothing f =
-        sym (missed name clock (used (decode b .keys)) (used (decode b .names)) (name-absent (decode b .names) (stored .fits .nameSlots) name f))
-        ∙ call-granted (inspect name clock) b (inspect-passed e inTime) .0
+    inspect-at : (i : ℕ) → recordSlot second name (decode b .names) ≡ i
+        → inspectedSlot clock (decode b .keys) (getD (decode b .names) i none) ≡ answer (inspect second name clock) b
+    inspect-at i f =
+        ap (λ (i : ℕ). inspectedSlot clock (decode b .keys) (getD (decode b .names) i none)) (sym f)
+        ∙ record-inspected name clock (decode b .keys) second (decode b .names)
+        ∙ call-granted (inspect second name clock) b inspect-passed .0
 
-    pub inspect-found : (n : NameSlot) → name-found.At n ≡ nameFound (firstSlot (holds (nameIs name)) (decode b .names))
-        → inspectedSlot clock (decode b .keys) (getD (decode b .names) (n .0) none) ≡ answer (inspect name clock) b
-    inspect-found n f =
-        let x : FoundAt (λ r. r .name) name (decode b .names) 128 (n .0) = name-found-at (decode b .names) (stored .fits .nameSlots) name n f in
-        ap (inspectedSlot clock (decode b .keys)) (x .there)
-        ∙ sym (looked-at name clock (used (decode b .keys)) (decode b .names) (n .0) (x .what) (x .there) (same-eq (x .what .name) name (x .its)) (stored .nameOnce name))
-        ∙ call-granted (inspect name clock) b (inspect-passed e inTime) .0
+    pub inspect-nothing : Stored b → name-found.Nothing ≡ nameFound (recordSlot second name (decode b .names)) → plain 4 ≡ answer (inspect second name clock) b
+    inspect-nothing stored f =
+        let past : length (decode b .names) ≤ recordSlot second name (decode b .names) =
+        omega (arith, stored .fits .nameSlots, name-not-there (recordSlot second name (decode b .names)) f) in
+        ap (inspectedSlot clock (decode b .keys)) (sym (List·getD-eq-default (decode b .names) none past)) ∙ inspect-at (recordSlot second name (decode b .names)) refl
+
+    pub inspect-found : (n : NameSlot) → name-found.At n ≡ nameFound (recordSlot second name (decode b .names))
+        → inspectedSlot clock (decode b .keys) (getD (decode b .names) (n .0) none) ≡ answer (inspect second name clock) b
+    inspect-found n f = inspect-at (n .0) (name-there (recordSlot second name (decode b .names)) n f .1)
 
 -- what a slot's record says, from what its fields say
 module _ (clock : ℕ) (keys : List (Option KeyRecord)) (floor initial : ℕ) where

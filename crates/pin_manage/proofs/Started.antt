@@ -1,24 +1,30 @@
 -- What starting answers and leaves, by the length of the area. Assumes nothing.
 use mathlib.Core.Path.{_≡_, refl, sym, ap, _∙_}
+use mathlib.Core.Bool.{Bool, true, false}
 use mathlib.Core.List.{List}
 use Prim.Native.Nat.{ℕ}
-use lib.ListN.{length, replicate, length-replicate}
+use lib.ListN.{length, replicate, set, length-replicate}
+use mir.Val.{boolByte}
 use borrow.Author.Tests.{eq-eqb, ne-eqb}
 use Rattle.octets.specs.Octets.{put}
 use Rattle.octets.proofs.Parts.{put-all}
-use Rattle.pin_model.specs.Layout.{areaLength}
+use Rattle.pin_model.specs.Layout.{areaLength, emptyArea}
 use Rattle.pin_model.specs.Calls.{plain, start, refusal, answer, areaAfter}
-use Rattle.pin_model.proofs.SoundTable.{encode-empty}
+use Rattle.pin_model.proofs.AreaKept.{started as area-started}
 
-pub start-refused : (b : List ℕ) → (length b ≡ areaLength → ⊥) → (plain 10 ≡ answer start b) × (b ≡ areaAfter start b)
+pub start-refused : (two : Bool) (b : List ℕ) → (length b ≡ areaLength → ⊥) → (plain 10 ≡ answer (start two) b) × (b ≡ areaAfter (start two) b)
 unfolding answer areaAfter refusal
-start-refused b h = let n = ne-eqb (length b) areaLength h in (simp n, simp n)
+start-refused two b h = let n = ne-eqb (length b) areaLength h in (simp n, simp n)
 
-pub started : (b after : List ℕ) → length b ≡ areaLength → after ≡ put b 0 (replicate areaLength 0)
-    → (plain 7 ≡ answer start b) × (after ≡ areaAfter start b)
-unfolding answer areaAfter refusal
-started b after h e =
-    let n = eq-eqb (length b) areaLength h in
-    let zeros : put b 0 (replicate areaLength 0) ≡ replicate areaLength 0 =
-    put-all b (replicate areaLength 0) (h ∙ sym (length-replicate {A = ℕ} areaLength 0)) in
-    (simp n, simp n (e ∙ zeros ∙ sym encode-empty))
+-- zeros but for the edition in byte 4
+marked : (two : Bool) → set (replicate areaLength 0) 4 (boolByte two) ≡ emptyArea two
+unfolding emptyArea
+marked false = refl
+marked true = refl
+
+pub started : (two : Bool) (b : List ℕ) {zeros : List ℕ} → length b ≡ areaLength → zeros ≡ put b 0 (replicate areaLength 0)
+    → (plain 7 ≡ answer (start two) b) × (set zeros 4 (boolByte two) ≡ areaAfter (start two) b)
+unfolding answer refusal
+started two b {zeros} h e =
+    let all : zeros ≡ replicate areaLength 0 = e ∙ put-all b (replicate areaLength 0) (h ∙ sym (length-replicate {A = ℕ} areaLength 0)) in
+    (simp (eq-eqb (length b) areaLength h), ap (λ (l : List ℕ). set l 4 (boolByte two)) all ∙ marked two ∙ sym (area-started two b h))

@@ -2,7 +2,7 @@
 -- order. Assumes nothing.
 use mathlib.Core.Path.{_≡_, refl, sym, _∙_, ap, ap₂, fun-ext}
 use mathlib.Core.Bool.{Bool, true, false, cond, not, _&&_, _||_, true≢false, false≢true, or-true, not-and-self, and-or-distrib-right}
-use mathlib.Core.List.{List, [], _∷_, map}
+use mathlib.Core.List.{List, [], _∷_, _++_, map}
 use Prim.Native.Nat.{ℕ, suc, _+_, _≤_, _<_}
 use native.Mathlib.Omega.{arith}
 use native.Mathlib.Nat.{zero-add}
@@ -11,21 +11,18 @@ use lib.ListN.{length}
 use borrow.Author.Tests.{ltb-true, ltb-false, lt-ltb}
 use Rattle.octets.specs.Octets.{all, any}
 use Rattle.octets.proofs.Tests.{is-false, both-ways, and-left, and-right, and-both}
+pub use Rattle.pin_model.specs.Slots.{bit, count}
 use Rattle.pin_model.specs.Slots.{struck, rewritten}
-
--- how many elements pass a test
-abbrev pub bit : Bool → ℕ
-bit true = 1
-bit false = 0
-
-abbrev pub count : {A : Type 0} → (A → Bool) → List A → ℕ
-count p [] = 0
-count p (x ∷ xs) = bit (p x) + count p xs
 
 -- a function that a change doesn't touch
 pub cond-same : {A B : Type 0} (g : A → B) (f : A → A) → ((x : A) → g (f x) ≡ g x) → (b : Bool) (x : A) → g (cond b (f x) x) ≡ g x
 cond-same g f h true x = h x
 cond-same g f h false x = refl
+
+-- what holds of both sides
+pub cond-either : {A : Type 0} (P : A → Type 0) (b : Bool) (x y : A) → P x → P y → P (cond b x y)
+cond-either P true x y p q = p
+cond-either P false x y p q = q
 
 module _ {A : Type 0} where
   pub any-ext : (p q : A → Bool) → ((x : A) → p x ≡ q x) → (l : List A) → any p l ≡ any q l
@@ -55,6 +52,11 @@ module _ {A : Type 0} where
   pub count-all : (l : List A) → count (λ x. true) l ≡ length l
   count-all [] = refl
   count-all (x ∷ xs) = let ih = count-all xs in omega arith
+
+  pub any-append : (p : A → Bool) (l m : List A) → any p (l ++ m) ≡ (any p l || any p m)
+  any-append p [] m = refl
+  any-append p (x ∷ l) m =
+      ap (λ (b : Bool). p x || b) (any-append p l m) ∙ elim (p x) as (λ b. (b || (any p l || any p m)) ≡ (b || any p l || any p m)) [ true ↦ refl | false ↦ refl ]
 
   pub any-nothing : (l : List A) → any (λ x. false) l ≡ false
   any-nothing [] = refl

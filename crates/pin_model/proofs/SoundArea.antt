@@ -1,53 +1,39 @@
 -- A sound area is the area of its table, which is sound; so an area is sound exactly when it is the area of a sound table. Assumes nothing.
 use mathlib.Core.Path.{_≡_, refl, sym, _∙_, ap, ap₂}
-use mathlib.Core.Bool.{Bool, true, false, _&&_, _||_, false≢true}
-use mathlib.Core.List.{List, _++_}
+use mathlib.Core.Bool.{true}
+use mathlib.Core.List.{List, _∷_, _++_}
 use mathlib.Core.Option.{Option, none, some}
 use mathlib.Core.Logic.{_↔_}
-use Prim.Native.Nat.{ℕ, zero, suc, _+_, _*_, _<_, zero-le, suc-le-suc}
+use Prim.Native.Nat.{ℕ, zero, suc, _+_, _*_, _≤_, _<_}
 use native.Mathlib.Omega.{arith}
-use lib.Dec.{ltb}
+use lib.Dec.{eqb}
+use lib.Seq.{drop-cons}
 use lib.ListN.{length, getD, drop}
-use borrow.Author.Tests.{eqb-true, eq-eqb, ltb-true, le-leb}
+use borrow.Author.Tests.{eqb-true, eq-eqb, le-leb}
 use Rattle.octets.specs.Octets.{part, all, any}
 use Rattle.octets.specs.Search.{some as someBelow}
 use Rattle.octets.proofs.Tests.{byTest, and-left, and-right}
 use Rattle.octets.proofs.Search.{every-at}
 use Rattle.octets.proofs.Parts.{part-length}
 use Rattle.octets.proofs.Numbers.{Bytes}
-use Rattle.octets.proofs.Equal.{same-refl, same-eq}
+use Rattle.octets.proofs.Equal.{same-eq}
 use Rattle.pin_model.specs.Slots.{used, apart}
 use Rattle.pin_model.specs.Table.{clockLimit, KeyRecord, Table, keyIs, pinnedTo, soundName, soundTable}
-use Rattle.pin_model.specs.Layout.{joined, placeOf, keyAt, encodeKey, decodeKey, encodeName, decodeName, encode, keysIn, namesIn, decode}
-use Rattle.pin_model.specs.Sound.{latestIn, keySlot, nameSlot, isUsed, keyIn, keyNumber, keyShaped, keysShaped, nameShaped, namesShaped, nameKeyed, namesKeyed, refersTo, keyNamed, keysNamed, sound}
-use Rattle.pin_model.proofs.Places.{passes, any-at, all-from}
-use Rattle.pin_model.proofs.Once.{apart-once}
-use Rattle.pin_model.proofs.KeyPlaces.{place-once}
+use Rattle.pin_model.specs.Layout.{joined, keyAt, encodeKey, decodeKey, encodeName, decodeName, editionByte, encode, keysIn, namesIn, decode}
+use Rattle.pin_model.specs.Sound.{latestIn, ofTwo, keySlot, nameSlot, isUsed, keyNumber, keyShaped, keysShaped, nameShaped, namesShaped, refersTo, keyNamed, keysNamed, sound}
+use Rattle.pin_model.proofs.Places.{any-at, all-from}
 use Rattle.pin_model.proofs.Fits.{keyFits, keysWhole, Fits}
 use Rattle.pin_model.proofs.Cut.{part-then, part-last, zero-part, part-bytes, number-part}
 use Rattle.pin_model.proofs.Joined.{joined-split}
-use Rattle.pin_model.proofs.KeyBytes.{decode-used-key, decode-free-key, decode-key-fits, encode-decode-key}
+use Rattle.pin_model.proofs.KeyBytes.{decode-free-key, decode-key-fits, encode-decode-key}
 use Rattle.pin_model.proofs.NameBytes.{decode-used-name, decode-free-name}
 use Rattle.pin_model.proofs.NameRules.{encode-decode-name, decode-name-sound}
-use Rattle.pin_model.proofs.Decoded.{keys-in-length, keys-in-at, names-in-length, names-in-at, keys-distinct, names-distinct}
+use Rattle.pin_model.proofs.Decoded.{keys-in-length, keys-in-at, names-in-length, names-in-at, keys-distinct}
+use Rattle.pin_model.proofs.Repeats.{Hit, some-hit, keyRead, used-key-at, name-pointed, pointed-passes, number-placed, Few, distinct-few}
+use Rattle.pin_model.proofs.SoundFacts.{names-few, pins-apart}
 use Rattle.pin_model.proofs.SoundTable.{sound-table-fits}
 use Rattle.pin_model.proofs.SoundEncode.{sound-encode}
 use Rattle.pin_model.proofs.Rules.{Rules, rules-of}
-
--- a number below n of which a test holds
-record Hit (p : ℕ → Bool) (n : ℕ) : Type 0 where
-  at : ℕ
-  below : at < n
-  holds : p at ≡ true
-
-some-hit : (p : ℕ → Bool) (n : ℕ) → someBelow p n ≡ true → Hit p n
-unfolding someBelow
-some-hit p zero e = absurd (false≢true e)
-some-hit p (suc n) e = go (p zero) refl e (some-hit (λ i. p (suc i)) n)
-  where
-    go : (b : Bool) → p zero ≡ b → (b || someBelow (λ i. p (suc i)) n) ≡ true → (someBelow (λ i. p (suc i)) n ≡ true → Hit (λ i. p (suc i)) n) → Hit p (suc n)
-    go true d e ih = record { at = zero; below = suc-le-suc zero-le; holds = d }
-    go false d e ih = let h : Hit (λ i. p (suc i)) n = ih e in record { at = suc (h .at); below = suc-le-suc (h .below); holds = h .holds }
 
 module _ (b : List ℕ) (r : Rules b) where
   abbrev keys : List (Option KeyRecord)
@@ -68,33 +54,6 @@ module _ (b : List ℕ) (r : Rules b) where
   keys-apart : apart (λ k j. keyIs (k .key) j) (used keys) ≡ true
   keys-apart = sym (keys-distinct b) ∙ r .noKeyTwice
 
-  -- the record of a used key slot, and the key that a name slot points to
-  keyRead : ℕ → KeyRecord
-  keyRead k = record { key = keyIn (keySlot b k); floor = getD (keySlot b k) 1 0 }
-
-  used-key-at : (k : ℕ) → k < 64 → isUsed (keySlot b k) ≡ true → getD keys k none ≡ some (keyRead k)
-  unfolding keyRead
-  used-key-at k l u = keys-in-at b k l ∙ decode-used-key (keySlot b k) u
-
-  record Pointed (s : List ℕ) : Type 0 where
-    below : keyNumber s < 64
-    what : KeyRecord
-    there : getD keys (keyNumber s) none ≡ some what
-
-  pointed : (s : List ℕ) → nameKeyed b s ≡ true → isUsed s ≡ true → Pointed s
-  unfolding nameKeyed
-  pointed s h u =
-      let g : (ltb (keyNumber s) 64 && isUsed (keySlot b (keyNumber s))) ≡ true = rw u at h in
-      let l : keyNumber s < 64 = ltb-true (keyNumber s) 64 (and-left (ltb (keyNumber s) 64) (isUsed (keySlot b (keyNumber s))) g) in
-      record { below = l; what = keyRead (keyNumber s); there = used-key-at (keyNumber s) l (and-right (ltb (keyNumber s) 64) (isUsed (keySlot b (keyNumber s))) g) }
-
-  name-pointed : (n : ℕ) → n < 128 → isUsed (nameSlot b n) ≡ true → Pointed (nameSlot b n)
-  unfolding namesKeyed
-  name-pointed n l u = pointed (nameSlot b n) (every-at (λ n. nameKeyed b (nameSlot b n)) 128 n (r .keyedNames) l) u
-
-  pointed-passes : (s : List ℕ) → Pointed s → passes (keyIs (keyAt (getD keys (keyNumber s) none))) (getD keys (keyNumber s) none) ≡ true
-  pointed-passes s p = rw (p .there) (same-refl (p .what .key))
-
   -- the rules of the table
   pub table-keys : keysWhole (decode b) ≡ true
   table-keys =
@@ -109,7 +68,7 @@ module _ (b : List ℕ) (r : Rules b) where
       rw (names-in-at b keys n m)
       (byTest (isUsed (nameSlot b n))
       (λ u. rw (decode-used-name keys (nameSlot b n) u)
-      (any-at (keyIs (keyAt (getD keys (keyNumber (nameSlot b n)) none))) keys (keyNumber (nameSlot b n)) (pointed-passes (nameSlot b n) (name-pointed n m u))))
+      (any-at (keyIs (keyAt (getD keys (keyNumber (nameSlot b n)) none))) keys (keyNumber (nameSlot b n)) (pointed-passes b (r .noKeyTwice) (r .keyedNames) (nameSlot b n) (name-pointed b (r .noKeyTwice) (r .keyedNames) n m u))))
       (λ u. rw (decode-free-name keys (nameSlot b n) u))))
 
   key-pinned : (k : ℕ) (x : KeyRecord) → k < 64 → isUsed (keySlot b k) ≡ true → getD keys k none ≡ some x → any (pinnedTo (x .key)) (used (namesIn keys b)) ≡ true
@@ -128,7 +87,7 @@ module _ (b : List ℕ) (r : Rules b) where
       all-from (λ k. any (pinnedTo (k .key)) (used (namesIn keys b))) keys (λ k l.
       let m : k < 64 = omega (arith, keys-in-length b) in
       byTest (isUsed (keySlot b k))
-      (λ u. rw (used-key-at k m u) (key-pinned k (keyRead k) m u (used-key-at k m u)))
+      (λ u. rw (used-key-at b (r .noKeyTwice) (r .keyedNames) k m u) (key-pinned k (keyRead b (r .noKeyTwice) (r .keyedNames) k) m u (used-key-at b (r .noKeyTwice) (r .keyedNames) k m u)))
       (λ u. rw (keys-in-at b k m ∙ decode-free-key (keySlot b k) u)))
 
   names-sound : all (soundName (latestIn b)) (used (namesIn keys b)) ≡ true
@@ -137,6 +96,9 @@ module _ (b : List ℕ) (r : Rules b) where
       let m : n < 128 = omega (arith, names-in-length b keys) in
       rw (names-in-at b keys n m) (decode-name-sound keys (latestIn b) (nameSlot b n) (name-slot-shaped n m)))
 
+  repeats : Few b (r .noKeyTwice) (r .keyedNames) (ofTwo b)
+  repeats = distinct-few b (r .noKeyTwice) (r .keyedNames) (r .noNameTwice)
+
   pub table-sound : soundTable (decode b) ≡ true
   table-sound =
       rw (
@@ -144,11 +106,17 @@ module _ (b : List ℕ) (r : Rules b) where
         eq-eqb (length keys) 64 (keys-in-length b),
         eq-eqb (length (namesIn keys b)) 128 (names-in-length b keys),
         keys-apart,
-        sym (names-distinct b keys) ∙ r .noNameTwice,
+        names-few (ofTwo b) (used (namesIn keys b)) (repeats .nameFew),
+        pins-apart (used (namesIn keys b)) (repeats .pinOnce),
         names-keyed,
         keys-named,
       )
       names-sound
+
+  edition-written : (n : ℕ) → n ≤ 1 → editionByte (eqb n 1) ≡ n
+  edition-written zero h = refl
+  edition-written (suc zero) h = refl
+  edition-written (suc (suc n)) h = absurd (omega arith)
 
   -- the bytes
   module _ (bytes : Bytes b) where
@@ -160,14 +128,9 @@ module _ (b : List ℕ) (r : Rules b) where
     unfolding keysShaped
     key-written k l = encode-decode-key (keySlot b k) (key-slot-length k l) (every-at (λ k. keyShaped (keySlot b k)) 64 k (r .keysRight) l)
 
-    number-written : (n : ℕ) → n < 128 → isUsed (nameSlot b n) ≡ true → placeOf (keyAt (getD keys (keyNumber (nameSlot b n)) none)) keys ≡ keyNumber (nameSlot b n)
-    number-written n l u =
-        place-once (keyAt (getD keys (keyNumber (nameSlot b n)) none)) keys (keyNumber (nameSlot b n)) (pointed-passes (nameSlot b n) (name-pointed n l u))
-        (apart-once (λ (k : KeyRecord). k .key) (used keys) keys-apart (keyAt (getD keys (keyNumber (nameSlot b n)) none)))
-
     name-written : (n : ℕ) → n < 128 → encodeName keys (decodeName keys (nameSlot b n)) ≡ nameSlot b n
     name-written n l =
-        encode-decode-name keys (latestIn b) (nameSlot b n) (name-slot-length n l) (name-slot-bytes n) (name-slot-shaped n l) (number-written n l)
+        encode-decode-name keys (latestIn b) (nameSlot b n) (name-slot-length n l) (name-slot-bytes n) (name-slot-shaped n l) (number-placed b (r .noKeyTwice) (r .keyedNames) n l)
 
     keys-written : joined encodeKey keys ≡ part b 8 4608
     unfolding keysIn keySlot
@@ -182,9 +145,11 @@ module _ (b : List ℕ) (r : Rules b) where
     bytes-written =
         let w : length b ≡ 39432 = r .whole in
         ap₂ _++_ (number-part b 0 4 (omega arith) bytes)
-        (ap₂ _++_ (sym (zero-part b 4 4 (omega arith) (r .headZero)))
+        (ap₂ _∷_ (edition-written (getD b 4 0) (r .editionRight))
+        (ap₂ _++_ (sym (zero-part b 5 3 (omega arith) (r .headZero)))
         (ap₂ _++_ keys-written names-written ∙ part-then b 8 4608 4616 refl)
-        ∙ part-then b 4 4 8 refl)
+        ∙ part-then b 5 3 8 refl)
+        ∙ sym (drop-cons b 4 0 (omega arith)))
         ∙ part-then b 0 4 4 refl
 
 pub record SoundArea (b : List ℕ) : Type 0 where

@@ -8,21 +8,21 @@ use native.Mathlib.Omega.{arith}
 use lib.ListN.{length, getD, replicate}
 use Rattle.octets.specs.Octets.{any, put}
 use Rattle.pin_model.specs.Slots.{used}
-use Rattle.pin_model.specs.Table.{KeyRecord, NameRecord, Table, table, nameIs, pinnedTo}
+use Rattle.pin_model.specs.Table.{KeyRecord, NameRecord, Table, holding, pinnedTo}
 use Rattle.pin_model.specs.Layout.{keyAt, encodeKey, encodeName, encode, decode}
-use Rattle.pin_model.proofs.Lists.{count}
-use Rattle.pin_model.proofs.Places.{any-at, any-none, count-set}
+use Rattle.pin_model.proofs.Places.{any-at, any-none}
 use Rattle.pin_model.proofs.Fits.{Fits}
 use Rattle.pin_model.proofs.Encoded.{encode-length}
 use Rattle.pin_model.proofs.Kept.{KeyWritten, NameWritten, name-written, freed-key-written}
-use Rattle.pin_records.specs.Holds.{Holds, withKey, withName, withoutUnnamed}
+use Rattle.pin_records.specs.Holds.{Distinct, Holds, withKey, withName, withoutUnnamed}
 use Rattle.pin_records.specs.Find.{holds, isFree}
+use Rattle.pin_records.proofs.DistinctNames.{distinct-cleared}
 use Rattle.pin_records.proofs.Placed.{Used, is-used}
 use Rattle.pin_records.proofs.HeldSlots.{holds-decode}
 use Rattle.pin_records.proofs.Swept.{swept, swept-at, swept-goes, swept-stays, swept-all}
 
-holds-written : (d : List ℕ) (u : Table) → d ≡ encode u → Fits u → ((n : List ℕ) → count (nameIs n) (used (u .names)) ≤ 1) → Holds d u
-holds-written d u e f once = record { bytes = e; long = ap length e ∙ encode-length u f; fits = f; nameOnce = once }
+holds-written : (d : List ℕ) (u : Table) → d ≡ encode u → Fits u → Distinct (u .two) (u .names) → Holds d u
+holds-written d u e f distinct = record { bytes = e; long = ap length e ∙ encode-length u f; fits = f; distinct = distinct }
 
 module _ {b d : List ℕ} {t : Table} (h : Holds b t) where
   pub name-cleared : (n : ℕ) → n < 128 → d ≡ put b (4616 + 272 * n) (replicate 272 0) → Holds d (withName t n none)
@@ -30,7 +30,7 @@ module _ {b d : List ℕ} {t : Table} (h : Holds b t) where
   name-cleared n l e =
       let w : NameWritten t n none = name-written t (h .fits) n none l refl in
       holds-written d (withName t n none) (e ∙ ap (λ (a : List ℕ). put a (4616 + 272 * n) (replicate 272 0)) (h .bytes) ∙ w .area) (w .fits)
-      (λ ν. omega (arith, h .nameOnce ν, count-set (nameIs ν) (t .names) n none (rw (h .fits .nameSlots) l)))
+      (distinct-cleared (h .distinct) n (rw (h .fits .nameSlots) l))
 
   pub key-cleared : (k : ℕ) → k < 64 → isFree (getD (t .keys) k none) ≡ false → any (pinnedTo (keyAt (getD (t .keys) k none))) (used (t .names)) ≡ false
       → d ≡ put b (8 + 72 * k) (replicate 72 0) → Holds d (withKey t k none)
@@ -40,7 +40,7 @@ module _ {b d : List ℕ} {t : Table} (h : Holds b t) where
       let w : KeyWritten t k none =
       freed-key-written t (h .fits) k (x .what) l (x .there)
       (ap (λ (y : Option KeyRecord). any (pinnedTo (keyAt y)) (used (t .names))) (sym (x .there)) ∙ unpinned) in
-      holds-written d (withKey t k none) (e ∙ ap (λ (a : List ℕ). put a (8 + 72 * k) (replicate 72 0)) (h .bytes) ∙ w .area) (w .fits) (h .nameOnce)
+      holds-written d (withKey t k none) (e ∙ ap (λ (a : List ℕ). put a (8 + 72 * k) (replicate 72 0)) (h .bytes) ∙ w .area) (w .fits) (h .distinct)
 
 -- no name is left on the key
 abbrev unnamed : List (Option NameRecord) → KeyRecord → Bool
@@ -48,7 +48,7 @@ unnamed names x = not (any (pinnedTo (x .key)) (used names))
 
 -- the loop over the keys: those below k are done
 abbrev pub stage : Table → ℕ → Table
-stage t k = table (t .latest) (swept (unnamed (t .names)) k (t .keys)) (t .names)
+stage t k = holding t (swept (unnamed (t .names)) k (t .keys)) (t .names)
 
 module _ (t : Table) {b : List ℕ} (k : ℕ) (h : Holds b (stage t k)) where
   back : decode b ≡ stage t k
@@ -64,7 +64,7 @@ module _ (t : Table) {b : List ℕ} (k : ℕ) (h : Holds b (stage t k)) where
       ∙ ap (λ (u : Table). any (pinnedTo (keyAt (getD (t .keys) k none))) (used (u .names))) back
 
   stays : holds (unnamed (t .names)) (getD (t .keys) k none) ≡ false → Holds b (stage t (k + 1))
-  stays e = subst (λ (l : List (Option KeyRecord)). Holds b (table (t .latest) l (t .names))) (swept-stays (unnamed (t .names)) k (t .keys) e) h
+  stays e = subst (λ (l : List (Option KeyRecord)). Holds b (holding t l (t .names))) (swept-stays (unnamed (t .names)) k (t .keys) e) h
 
   pub stage-free : isFree (getD (decode b .keys) k none) ≡ true → Holds b (stage t (k + 1))
   stage-free e = stays (go (getD (t .keys) k none) (ap isFree (sym slot) ∙ e))
@@ -91,7 +91,7 @@ module _ (t : Table) {b : List ℕ} (k : ℕ) (h : Holds b (stage t k)) where
       → ((n : ℕ) → n < 128 → holds (pinnedTo (keyAt (getD (decode b .keys) k none))) (getD (decode b .names) n none) ≡ false)
       → Holds d (withKey (decode b) k none) → Holds d (stage t (k + 1))
   stage-cleared {d} u f g =
-      subst (λ (l : List (Option KeyRecord)). Holds d (table (t .latest) l (t .names)))
+      subst (λ (l : List (Option KeyRecord)). Holds d (holding t l (t .names)))
       (swept-goes (unnamed (t .names)) k (t .keys) (go (getD (t .keys) k none) (ap isFree (sym slot) ∙ u) (sym left ∙ stage-unnamed f)))
       (subst (λ (v : Table). Holds d (withKey v k none)) back g)
     where
@@ -101,4 +101,4 @@ module _ (t : Table) {b : List ℕ} (k : ℕ) (h : Holds b (stage t k)) where
 
 pub stage-end : (t : Table) {b : List ℕ} (k : ℕ) → Holds b (stage t k) → length (t .keys) ≡ 64 → 64 ≤ k → Holds b (withoutUnnamed t)
 stage-end t {b} k h slots l =
-    subst (λ (l : List (Option KeyRecord)). Holds b (table (t .latest) l (t .names))) (swept-all (unnamed (t .names)) k (t .keys) (omega arith)) h
+    subst (λ (l : List (Option KeyRecord)). Holds b (holding t l (t .names))) (swept-all (unnamed (t .names)) k (t .keys) (omega arith)) h

@@ -67,7 +67,7 @@ key-not-there j e = go (ltb j 64) refl e
     go true d f = let z : _≡_ {A = ℕ} 0 1 = cc in absurd (omega arith)
     go false d f = ltb-false j 64 d
 
-name-there : (j : ℕ) (n : NameSlot) → name-found.At n ≡ nameFound j → (j < 128) × (j ≡ n .0)
+pub name-there : (j : ℕ) (n : NameSlot) → name-found.At n ≡ nameFound j → (j < 128) × (j ≡ n .0)
 unfolding nameFound
 name-there j n e = go (ltb j 128) refl e
   where
@@ -77,7 +77,7 @@ name-there j n e = go (ltb j 128) refl e
         (ltb-true j 128 d, ap (λ (x : NameSlot). x .0) q)
     go false d f = let z : _≡_ {A = ℕ} 0 1 = cc in absurd (omega arith)
 
-name-not-there : (j : ℕ) → name-found.Nothing ≡ nameFound j → 128 ≤ j
+pub name-not-there : (j : ℕ) → name-found.Nothing ≡ nameFound j → 128 ≤ j
 unfolding nameFound
 name-not-there j e = go (ltb j 128) refl e
   where

@@ -1,7 +1,11 @@
 pub mod Placed
 pub mod SlotBytes
 pub mod Found
+pub mod SecondSlots
 pub mod HeldSlots
+pub mod PinnedKeys
 pub mod Swept
+pub mod DroppedNames
 pub mod Cleared
+pub mod DistinctNames
 pub mod Stores

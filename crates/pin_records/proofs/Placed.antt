@@ -1,6 +1,6 @@
 -- The first slot that passes a test, and operations on slots that change one slot alone. Assumes nothing.
 use mathlib.Core.Path.{_≡_, refl, _∙_, ap, ap₂}
-use mathlib.Core.Bool.{Bool, true, false, cond, _||_, true≢false, false≢true}
+use mathlib.Core.Bool.{Bool, true, false, cond, _&&_, _||_, true≢false, false≢true}
 use mathlib.Core.List.{List, [], _∷_}
 use mathlib.Core.Option.{Option, none, some}
 use Prim.Native.Nat.{ℕ, zero, suc, _+_, _≤_, _<_, zero-le, suc-le-suc}
@@ -42,6 +42,17 @@ module _ {A : Type 0} (p : Option A → Bool) where
           → p (getD (x ∷ xs) (cond b 0 (suc (firstSlot p xs))) none) ≡ true
       go true e k ih = e
       go false e k ih = ih (le-of-suc-le-suc k)
+
+  pub first-before : (l : List (Option A)) (j : ℕ) → j < firstSlot p l → p (getD l j none) ≡ false
+  unfolding firstSlot
+  first-before [] j h = absurd (not-suc-le-zero h)
+  first-before (x ∷ xs) j h = go (p x) refl j h (first-before xs)
+    where
+      go : (b : Bool) → p x ≡ b → (j : ℕ) → j < cond b 0 (suc (firstSlot p xs)) → ((j : ℕ) → j < firstSlot p xs → p (getD xs j none) ≡ false)
+          → p (getD (x ∷ xs) j none) ≡ false
+      go true e j k ih = absurd (not-suc-le-zero k)
+      go false e zero k ih = e
+      go false e (suc j) k ih = ih j (le-of-suc-le-suc k)
 
   pub first-absent : (l : List (Option A)) → length l ≤ firstSlot p l → (j : ℕ) → j < length l → p (getD l j none) ≡ false
   unfolding firstSlot
@@ -90,6 +101,16 @@ is-used (some a) e = record { what = a; there = refl }
 pub holds-used : {A : Type 0} (p : A → Bool) (x : Option A) → holds p x ≡ true → isFree x ≡ false
 holds-used p none e = absurd (false≢true e)
 holds-used p (some a) e = refl
+
+-- two tests of a slot, by the first
+module _ {A : Type 0} (p q : A → Bool) where
+  pub holds-both : (x : Option A) → holds p x ≡ true → holds (λ a. p a && q a) x ≡ holds q x
+  holds-both none e = refl
+  holds-both (some a) e = ap (λ (b : Bool). b && q a) e
+
+  pub holds-neither : (x : Option A) → holds p x ≡ false → holds (λ a. p a && q a) x ≡ false
+  holds-neither none e = refl
+  holds-neither (some a) e = ap (λ (b : Bool). b && q a) e
 
 -- where slot j alone passes
 module _ {A : Type 0} (p : A → Bool) where

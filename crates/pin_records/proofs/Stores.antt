@@ -1,32 +1,32 @@
 -- The area after each store: it holds the table with that record. Assumes nothing.
 use mathlib.Core.Path.{_≡_, refl, sym, _∙_, ap}
-use mathlib.Core.Bool.{Bool, true, false, true≢false, false≢true}
+use mathlib.Core.Bool.{true, false, true≢false, false≢true}
 use mathlib.Core.List.{List, [], _∷_, _++_}
 use mathlib.Core.Option.{Option, none, some}
 use Prim.Native.Nat.{ℕ, _+_, _*_, _-_, _%_, _≤_, _<_}
 use native.Mathlib.Nat.{mod-eq-of-lt}
 use native.Mathlib.Omega.{arith}
 use lib.ListN.{length, getD, set, replicate}
-use borrow.Author.Tests.{eq-eqb, ltb-false}
-use Rattle.octets.specs.Octets.{part, put, same, any, bigEndian}
+use borrow.Author.Tests.{eq-eqb}
+use Rattle.octets.specs.Octets.{part, put, bigEndian}
 use Rattle.octets.proofs.Parts.{set-put, set-inside, put-nested, put-length}
 use Rattle.octets.proofs.Numbers.{bigEndian-length}
-use Rattle.octets.proofs.Equal.{same-true, same-refl}
+use Rattle.octets.proofs.Equal.{same-refl}
 use Rattle.pin_model.specs.Slots.{used}
-use Rattle.pin_model.specs.Table.{KeyRecord, NameRecord, Table, keyIs, nameIs, keyRecorded}
+use Rattle.pin_model.specs.Table.{KeyRecord, NameRecord, Table, keyIs, keyRecorded}
 use Rattle.pin_model.specs.Layout.{placeOf, keyAt, encodeKey, encodeName, encode}
 use Rattle.pin_model.specs.Sound.{keySlot, nameSlot}
-use Rattle.pin_model.proofs.Lists.{bit, count, any-count}
-use Rattle.pin_model.proofs.Places.{passes, freeOr, any-at, count-set}
+use Rattle.pin_model.proofs.Places.{passes, freeOr, any-at}
 use Rattle.pin_model.proofs.KeyPlaces.{place-once}
 use Rattle.pin_model.proofs.Fits.{fourBytes, nameFits, Fits, NameFits, name-fits, fits-name, name-fits-at}
 use Rattle.pin_model.proofs.NameBytes.{name-length}
 use Rattle.pin_model.proofs.Encoded.{encode-length, encode-key-slot, encode-name-slot}
 use Rattle.pin_model.proofs.Written.{write-latest}
 use Rattle.pin_model.proofs.Kept.{KeyWritten, NameWritten, fits-latest, floor-written, new-key-written, name-written}
-use Rattle.pin_records.specs.Holds.{Holds, withKey, withName, withLatest}
+use Rattle.pin_records.specs.Holds.{Distinct, Holds, withKey, withName, withLatest}
 use Rattle.pin_records.specs.Find.{isFree}
-use Rattle.pin_records.specs.Store.{keyRecord, nameRecord, withFloor, withEnd, OnlyHere}
+use Rattle.pin_records.specs.Store.{keyRecord, nameRecord, withFloor, withEnd, Fresh}
+use Rattle.pin_records.proofs.DistinctNames.{distinct-same, distinct-added}
 
 -- a change in a slot s of w bytes is the slot put anew
 in-slot : (b s : List ℕ) (at w i : ℕ) (vs : List ℕ) → part b at w ≡ s → at + w ≤ length b → i + length vs ≤ w
@@ -55,24 +55,6 @@ new-name keys k clock name key l short e =
     let size : length name % 256 ≡ length name = mod-eq-of-lt (omega arith) in
     rw (number, size, e) refl
 
--- no name is there twice with a record whose name no other slot has
-once-there : (r : NameRecord) (names : List (Option NameRecord)) (n : ℕ) → n < length names → OnlyHere (r .name) n names
-    → ((m : List ℕ) → count (nameIs m) (used names) ≤ 1) → (m : List ℕ) → count (nameIs m) (used (set names n (some r))) ≤ 1
-once-there r names n l only once m = go (same (r .name) m) refl
-  where
-    go : (s : Bool) → same (r .name) m ≡ s → count (nameIs m) (used (set names n (some r))) ≤ 1
-    go true d =
-        let others : List NameRecord = used (set names n none) in
-        let absent : any (nameIs m) others ≡ false = ap (λ (x : List ℕ). any (nameIs x) others) (sym (same-true (r .name) m d)) ∙ only in
-        omega (
-          arith,
-          ltb-false 0 (count (nameIs m) others) (sym (any-count (nameIs m) others) ∙ absent),
-          ap bit d,
-          count-set (nameIs m) names n (some r) l,
-          count-set (nameIs m) names n none l,
-        )
-    go false d = omega (arith, once m, ap bit d, count-set (nameIs m) names n (some r) l)
-
 module _ {b : List ℕ} {t : Table} (h : Holds b t) where
   -- what stands in a used slot
   key-there : (k : ℕ) (x : KeyRecord) → k < 64 → getD (t .keys) k none ≡ some x → part b (8 + 72 * k) 72 ≡ encodeKey (some x)
@@ -87,20 +69,20 @@ module _ {b : List ℕ} {t : Table} (h : Holds b t) where
   pub key-put : {d : List ℕ} {k : ℕ} {x : Option KeyRecord} → KeyWritten t k x → d ≡ put b (8 + 72 * k) (encodeKey x) → Holds d (withKey t k x)
   key-put {d} {k} {x} w e =
       let bytes : d ≡ encode (withKey t k x) = e ∙ ap (λ (a : List ℕ). put a (8 + 72 * k) (encodeKey x)) (h .bytes) ∙ w .area in
-      record { bytes = bytes; long = ap length bytes ∙ encode-length (withKey t k x) (w .fits); fits = w .fits; nameOnce = h .nameOnce }
+      record { bytes = bytes; long = ap length bytes ∙ encode-length (withKey t k x) (w .fits); fits = w .fits; distinct = h .distinct }
 
-  pub name-put : {d : List ℕ} {n : ℕ} {x : Option NameRecord} → NameWritten t n x → ((m : List ℕ) → count (nameIs m) (used (set (t .names) n x)) ≤ 1)
+  pub name-put : {d : List ℕ} {n : ℕ} {x : Option NameRecord} → NameWritten t n x → Distinct (t .two) (set (t .names) n x)
       → d ≡ put b (4616 + 272 * n) (encodeName (t .keys) x) → Holds d (withName t n x)
-  name-put {d} {n} {x} w once e =
+  name-put {d} {n} {x} w distinct e =
       let bytes : d ≡ encode (withName t n x) = e ∙ ap (λ (a : List ℕ). put a (4616 + 272 * n) (encodeName (t .keys) x)) (h .bytes) ∙ w .area in
-      record { bytes = bytes; long = ap length bytes ∙ encode-length (withName t n x) (w .fits); fits = w .fits; nameOnce = once }
+      record { bytes = bytes; long = ap length bytes ∙ encode-length (withName t n x) (w .fits); fits = w .fits; distinct = distinct }
 
   -- the stores
   pub latest-stored : {d : List ℕ} (v : ℕ) → v < fourBytes → d ≡ put b 0 (bigEndian 4 v) → Holds d (withLatest t v)
   latest-stored {d} v l e =
       let bytes : d ≡ encode (withLatest t v) = e ∙ ap (λ (a : List ℕ). put a 0 (bigEndian 4 v)) (h .bytes) ∙ write-latest t v in
       let fits : Fits (withLatest t v) = fits-latest t (h .fits) v l in
-      record { bytes = bytes; long = ap length bytes ∙ encode-length (withLatest t v) fits; fits = fits; nameOnce = h .nameOnce }
+      record { bytes = bytes; long = ap length bytes ∙ encode-length (withLatest t v) fits; fits = fits; distinct = h .distinct }
 
   pub floor-stored : (k floor : ℕ) → k < 64 → isFree (getD (t .keys) k none) ≡ false
       → Holds (set b (8 + 72 * k + 1) floor) (withKey t k (withFloor floor (getD (t .keys) k none)))
@@ -145,29 +127,25 @@ module _ {b : List ℕ} {t : Table} (h : Holds b t) where
           name-put
           (name-written t (h .fits) n (some x) l
           (fits-name (t .keys) x (record { short = f .short; recorded = f .recorded; initialFits = f .initialFits; endFits = small })))
-          (λ m. omega (
-            arith,
-            h .nameOnce m,
-            ap (λ (z : Option NameRecord). bit (passes (nameIs m) z)) e,
-            count-set (nameIs m) (t .names) n (some x) (rw (h .fits .nameSlots) l),
-          ))
+          (distinct-same (h .distinct) n (rw (h .fits .nameSlots) l) r x e refl refl)
           (ap (λ (a : List ℕ). set a (at + 3) 1) (q ∙ in-slot b s at 272 8 vs (name-there n r l e) (omega (arith, h .long)) (omega arith))
           ∙ set-inside b at (put s 8 vs) 3 1 (omega (arith, h .long)) (omega arith)
           ∙ ap (put b at) (new-end (t .keys) r end))
 
   pub name-stored : {d : List ℕ} (n k clock : ℕ) (name : List ℕ) → n < 128 → k < 64 → isFree (getD (t .keys) k none) ≡ false → length name ≤ 253
-      → OnlyHere name n (t .names) → clock < fourBytes → d ≡ put b (4616 + 272 * n) (newName k name clock)
+      → Fresh (t .two) name (keyAt (getD (t .keys) k none)) n (t .names) → clock < fourBytes → d ≡ put b (4616 + 272 * n) (newName k name clock)
       → Holds d (withName t n (some (nameRecord name (keyAt (getD (t .keys) k none)) clock)))
-  name-stored {d} n k clock name l m used-slot short only small q = go (getD (t .keys) k none) refl used-slot
+  name-stored {d} n k clock name l m used-slot short fresh small q = go (getD (t .keys) k none) refl used-slot fresh
     where
-      go : (y : Option KeyRecord) → getD (t .keys) k none ≡ y → isFree y ≡ false → Holds d (withName t n (some (nameRecord name (keyAt y) clock)))
-      go none e u = absurd (true≢false u)
-      go (some x) e u =
+      go : (y : Option KeyRecord) → getD (t .keys) k none ≡ y → isFree y ≡ false → Fresh (t .two) name (keyAt y) n (t .names)
+          → Holds d (withName t n (some (nameRecord name (keyAt y) clock)))
+      go none e u f = absurd (true≢false u)
+      go (some x) e u f =
           let r : NameRecord = nameRecord name (x .key) clock in
           let its : passes (keyIs (x .key)) (getD (t .keys) k none) ≡ true = ap (passes (keyIs (x .key))) e ∙ same-refl (x .key) in
           let place : placeOf (x .key) (t .keys) ≡ k = place-once (x .key) (t .keys) k its (h .fits .keyOnce (x .key)) in
           name-put
           (name-written t (h .fits) n (some r) l
           (fits-name (t .keys) r (record { short = short; recorded = any-at (keyIs (x .key)) (t .keys) k its; initialFits = small; endFits = omega arith })))
-          (once-there r (t .names) n (rw (h .fits .nameSlots) l) only (h .nameOnce))
+          (distinct-added (h .distinct) n (rw (h .fits .nameSlots) l) r f)
           (q ∙ ap (put b (4616 + 272 * n)) (new-name (t .keys) k clock name (x .key) m short place))

@@ -1,9 +1,9 @@
 -- A loop over slots that frees those that pass a test: what is done after k of them. Assumes nothing.
-use mathlib.Core.Path.{_≡_, refl, sym, _∙_, ap}
+use mathlib.Core.Path.{_≡_, refl, sym, _∙_, ap, ap₂}
 use mathlib.Core.Bool.{Bool, true, false, cond}
 use mathlib.Core.List.{List, [], _∷_}
 use mathlib.Core.Option.{Option, none, some}
-use Prim.Native.Nat.{ℕ, zero, suc, _+_, _≤_}
+use Prim.Native.Nat.{ℕ, zero, suc, _+_, _≤_, _<_, zero-le, suc-le-suc}
 use native.Mathlib.Nat.{le-of-suc-le-suc, not-suc-le-zero}
 use native.Mathlib.Numerals.{add-one}
 use lib.ListN.{length, getD, set}
@@ -52,6 +52,13 @@ module _ {A : Type 0} (q : A → Bool) where
   swept-stays k l e =
       sym (set-getD (swept k l) k none)
       ∙ next k l (getD (swept k l) k none) (weeded-stays (getD l k none) e ∙ sym (swept-at k l))
+
+  -- nothing goes where no slot before k passes
+  pub swept-none : (k : ℕ) (l : List (Option A)) → ((j : ℕ) → j < k → holds q (getD l j none) ≡ false) → swept k l ≡ l
+  swept-none zero l f = refl
+  swept-none (suc k) [] f = refl
+  swept-none (suc k) (x ∷ xs) f =
+      ap₂ (λ (y : Option A) (l : List (Option A)). y ∷ l) (weeded-stays x (f zero (suc-le-suc zero-le))) (swept-none k xs (λ j l. f (suc j) (suc-le-suc l)))
 
   pub swept-all : (k : ℕ) (l : List (Option A)) → length l ≤ k → swept k l ≡ freed q l
   swept-all zero [] h = refl

@@ -26,6 +26,11 @@ module _ {A : Type 0} where
   firstSlot p [] = 0
   firstSlot p (s ∷ slots) = cond (p s) 0 (suc (firstSlot p slots))
 
+  -- the second that does
+  unfoldable pub secondSlot : (Option A → Bool) → List (Option A) → ℕ
+  secondSlot p [] = 0
+  secondSlot p (s ∷ slots) = suc (cond (p s) (firstSlot p slots) (secondSlot p slots))
+
 -- a place below the number of slots
 unfoldable pub keyFound : ℕ → FoundKey
 keyFound k = cond (ltb k 64) (key-found.At (record { 0 = k })) key-found.Nothing

@@ -1,14 +1,14 @@
 -- Records as the stores write them. Cited by the functions between the open ones and the bytes: a reader of the open contracts
 -- can skip this file. Assumes nothing.
 use mathlib.Core.Path.{_≡_}
-use mathlib.Core.Bool.{false}
+use mathlib.Core.Bool.{Bool, false}
 use mathlib.Core.List.{List}
 use mathlib.Core.Option.{Option, none, some}
-use Prim.Native.Nat.{ℕ}
+use Prim.Native.Nat.{ℕ, _<_}
 use lib.ListN.{set}
 use Rattle.octets.specs.Octets.{any}
-use Rattle.pin_model.specs.Slots.{used}
-use Rattle.pin_model.specs.Table.{KeyRecord, NameRecord, nameIs}
+use Rattle.pin_model.specs.Slots.{count, used}
+use Rattle.pin_model.specs.Table.{KeyRecord, NameRecord, nameIs, pinIs, recordsOfAName}
 
 abbrev pub keyRecord : List ℕ → ℕ → KeyRecord
 keyRecord k m = record { key = k; floor = m }
@@ -25,6 +25,8 @@ abbrev pub withEnd : ℕ → Option NameRecord → Option NameRecord
 withEnd e none = none
 withEnd e (some r) = some (record { name = r .name; key = r .key; initial = r .initial; end = some e })
 
--- no other slot than n has the name
-abbrev pub OnlyHere : List ℕ → ℕ → List (Option NameRecord) → Type 0
-OnlyHere name n names = any (nameIs name) (used (set names n none)) ≡ false
+-- slot n may take a record of the name and the key: of the other slots fewer have the name than the edition allows, and none has
+-- both
+pub record Fresh (two : Bool) (name key : List ℕ) (n : ℕ) (names : List (Option NameRecord)) : Type 0 where
+  pub fewer : count (nameIs name) (used (set names n none)) < recordsOfAName two
+  pub unpinned : any (pinIs name key) (used (set names n none)) ≡ false

@@ -1,4 +1,5 @@
-// Which slot holds a key or a name, and which is free.
+// Which slot holds a key, a name or a pin, and which is free.
+use crate::read;
 use pin_table::slots;
 use pin_table::slots::KEY_SLOTS;
 use pin_table::slots::KeySlot;
@@ -8,10 +9,10 @@ ghost use mathlib.Core.Path.{_≡_};
 ghost use mathlib.Core.Option.{none};
 ghost use Prim.Native.Nat.{_<_};
 ghost use lib.ListN.{length, getD};
-ghost use Rattle.pin_model.specs.Table.{keyIs, nameIs};
+ghost use Rattle.pin_model.specs.Table.{keyIs, nameIs, pinIs};
 ghost use Rattle.pin_model.specs.Layout.{decode};
 ghost use Rattle.pin_records.specs.Holds.{Stored};
-ghost use Rattle.pin_records.specs.Find.{holds, isFree, firstSlot, keyFound, nameFound};
+ghost use Rattle.pin_records.specs.Find.{holds, isFree, firstSlot, secondSlot, keyFound, nameFound};
 
 pub enum FoundKey {
     At(KeySlot),
@@ -71,6 +72,49 @@ pub fn find_name(area: &[u8], name: &[u8]) -> FoundName
     let mut n = 0;
     while n < NAME_SLOTS {
         if holds_name(area, NameSlot(n), name) {
+            return FoundName::At(NameSlot(n));
+        }
+        n += 1;
+    }
+    FoundName::Nothing
+}
+
+// The second slot that holds the name.
+pub fn second_name(area: &[u8], name: &[u8]) -> FoundName
+    requires { ⌜ Stored (now area) ⌝ }
+    ensures { λ r. ⌜ r ≡ nameFound (secondSlot (holds (nameIs (now (name .entry)))) (decode (now (area .entry)) .names)) ⌝ }
+{
+    let FoundName::At(first) = find_name(area, name) else {
+        return FoundName::Nothing;
+    };
+    let mut n = first.0 + 1;
+    while n < NAME_SLOTS {
+        if holds_name(area, NameSlot(n), name) {
+            return FoundName::At(NameSlot(n));
+        }
+        n += 1;
+    }
+    FoundName::Nothing
+}
+
+// Whether the slot holds this name's record with this key.
+pub fn holds_pin(area: &[u8], n: NameSlot, name: &[u8], key: &[u8]) -> bool
+    requires { ⌜ Stored (now area) × (n .0 < 128) × (length (now key) ≡ 64) ⌝ }
+    ensures { λ r. ⌜ r ≡ holds (pinIs (now (name .entry)) (now (key .entry))) (getD (decode (now (area .entry)) .names) (n .0) none) ⌝ }
+{
+    if !holds_name(area, n, name) {
+        return false;
+    }
+    read::pinned_to(area, n, key)
+}
+
+pub fn find_pin(area: &[u8], name: &[u8], key: &[u8]) -> FoundName
+    requires { ⌜ Stored (now area) × (length (now key) ≡ 64) ⌝ }
+    ensures { λ r. ⌜ r ≡ nameFound (firstSlot (holds (pinIs (now (name .entry)) (now (key .entry)))) (decode (now (area .entry)) .names)) ⌝ }
+{
+    let mut n = 0;
+    while n < NAME_SLOTS {
+        if holds_pin(area, NameSlot(n), name, key) {
             return FoundName::At(NameSlot(n));
         }
         n += 1;

@@ -1,4 +1,5 @@
 // What a record says.
+use crate::find;
 use pin_table::minutes::Minutes;
 use pin_table::slots;
 use pin_table::slots::KeySlot;
@@ -58,6 +59,14 @@ pub fn key_of(area: &[u8], n: NameSlot) -> KeySlot
     ensures { λ r. ⌜ (r .0 < 64) × (r .0 ≡ pinnedKey (decode (now (area .entry)) .keys) (getD (decode (now (area .entry)) .names) (n .0) none)) ⌝ }
 {
     slots::key_number(slots::name_slot(area, n))
+}
+
+// Whether a used name slot's record is pinned to this key.
+pub fn pinned_to(area: &[u8], n: NameSlot, key: &[u8]) -> bool
+    requires { ⌜ Stored (now area) × (n .0 < 128) × (isFree (getD (decode (now area) .names) (n .0) none) ≡ false) × (length (now key) ≡ 64) ⌝ }
+    ensures { λ r. ⌜ r ≡ holds (pinnedTo (now (key .entry))) (getD (decode (now (area .entry)) .names) (n .0) none) ⌝ }
+{
+    find::holds_key(area, key_of(area, n), key)
 }
 
 // Whether a name slot's record is pinned to the key of a used key slot.

@@ -13,7 +13,7 @@ ghost use Rattle.pin_model.specs.Table.{keyRecorded};
 ghost use Rattle.pin_model.specs.Layout.{decode, keyAt};
 ghost use Rattle.pin_records.specs.Holds.{Holds, Stored, withKey, withName, withLatest};
 ghost use Rattle.pin_records.specs.Find.{isFree};
-ghost use Rattle.pin_records.specs.Store.{keyRecord, nameRecord, withEnd, withFloor, OnlyHere};
+ghost use Rattle.pin_records.specs.Store.{keyRecord, nameRecord, withEnd, withFloor, Fresh};
 
 pub fn store_latest(area: &mut [u8], clock: Minutes)
     requires { ⌜ Stored (now area) ⌝ }
@@ -55,9 +55,9 @@ pub fn store_end(area: &mut [u8], n: NameSlot, end: Minutes)
     area[at + 3] = 1;
 }
 
-// A new record of a name that stands in no other slot, pinned to the key of a used key slot.
+// A new record of a name, pinned to the key of a used key slot.
 pub fn store_name(area: &mut [u8], n: NameSlot, k: KeySlot, name: &[u8], clock: Minutes)
-    requires { ⌜ Stored (now area) × (n .0 < 128) × (k .0 < 64) × (isFree (getD (decode (now area) .keys) (k .0) none) ≡ false) × (length (now name) ≤ 253) × OnlyHere (now name) (n .0) (decode (now area) .names) ⌝ }
+    requires { ⌜ Stored (now area) × (n .0 < 128) × (k .0 < 64) × (isFree (getD (decode (now area) .keys) (k .0) none) ≡ false) × (length (now name) ≤ 253) × Fresh (decode (now area) .two) (now name) (keyAt (getD (decode (now area) .keys) (k .0) none)) (n .0) (decode (now area) .names) ⌝ }
     ensures { λ _. ⌜ Holds (now (area .exit)) (withName (decode (now (area .entry))) (n .0) (some (nameRecord (now (name .entry)) (keyAt (getD (decode (now (area .entry)) .keys) (k .0) none)) (clock .0)))) ⌝ }
 {
     let i = n.0;

@@ -22,6 +22,7 @@ use Rattle.pin_records.specs.Holds.{Holds}
 use Rattle.pin_records.specs.Find.{holds, endAt}
 use Rattle.pin_records.specs.Read.{endFound}
 use Rattle.pin_records.specs.declared.read.PinEnd.the-variants as pin-end
+use Rattle.pin_records.proofs.DistinctNames.{one-record}
 use Rattle.pin_records.proofs.Found.{FoundAt}
 use Rattle.pin_steps.specs.Steps.{activeFor, verdictBy}
 use Rattle.pin_steps.proofs.Tacks.{same-turned}
@@ -69,17 +70,17 @@ module _ {b : List ℕ} {t : Table} (h : Holds b t) (name : List ℕ) (clock : �
       sym (ap (λ (v : Bool). cond v (cond (any (λ r. activeFor name clock r && shownFor r) (used (t .names))) 1 2) 0)
       (none-implied (activeFor name clock) (nameIs name) (λ r. and-left (nameIs name r) (active clock r)) (used (t .names)) e))
 
-  module _ {n : ℕ} (x : FoundAt (λ r. r .name) name (t .names) 128 n) where
+  module _ (one : t .two ≡ false) {n : ℕ} (x : FoundAt (λ r. r .name) name (t .names) 128 n) where
     -- the verdict by that slot's record
     by-slot : (v w : Bool) → holds (active clock) (getD (t .names) n none) ≡ v → shownFor (x .what) ≡ w
         → cond v (cond (v && w) 1 2) 0 ≡ verdictBy name clock (unlessEmpty tack) t
     by-slot v w e d =
         let own : active clock (x .what) ≡ v = sym (ap (holds (active clock)) (x .there)) ∙ e in
         sym (ap₂ (λ (y z : Bool). cond y (cond z 1 2) 0)
-        (found-any x (h .nameOnce name) (active clock) ∙ e)
+        (found-any x (one-record (h .distinct) one name) (active clock) ∙ e)
         (any-ext (λ r. activeFor name clock r && shownFor r) (λ r. nameIs name r && (active clock r && shownFor r))
         (λ r. and-assoc (nameIs name r) (active clock r) (shownFor r)) (used (t .names))
-        ∙ found-any x (h .nameOnce name) (λ r. active clock r && shownFor r)
+        ∙ found-any x (one-record (h .distinct) one name) (λ r. active clock r && shownFor r)
         ∙ ap (holds (λ r. active clock r && shownFor r)) (x .there)
         ∙ ap₂ _&&_ own d))
 

@@ -9,10 +9,10 @@ use lib.ListN.{getD}
 use Rattle.octets.specs.Octets.{same, any}
 use Rattle.octets.proofs.Tests.{is-false}
 use Rattle.pin_model.specs.Slots.{used, freed}
-use Rattle.pin_model.specs.Table.{Table, table, keyIs, pinnedTo}
+use Rattle.pin_model.specs.Table.{Table, holding, keyIs, pinnedTo}
 use Rattle.pin_model.specs.Layout.{keyAt, decode}
 use Rattle.pin_model.specs.Judge.{listed}
-use Rattle.pin_model.proofs.Lists.{any-count, all-implied}
+use Rattle.pin_model.proofs.Lists.{any-count, all-implied, any-append, any-nothing}
 use Rattle.pin_model.proofs.Slots.{freed-none, count-gone}
 use Rattle.pin_model.proofs.Fields.{all-found}
 use Rattle.pin_model.proofs.Fits.{nameFits, name-fits}
@@ -24,15 +24,6 @@ use Rattle.pin_steps.specs.Steps.{breakBy}
 use Rattle.pin_steps.proofs.Tacks.{same-turned, with-keys, with-names}
 
 module _ {A : Type 0} where
-  any-append : (p : A → Bool) (l m : List A) → any p (l ++ m) ≡ (any p l || any p m)
-  any-append p [] m = refl
-  any-append p (x ∷ l) m =
-      ap (λ (b : Bool). p x || b) (any-append p l m) ∙ elim (p x) as (λ b. (b || (any p l || any p m)) ≡ (b || any p l || any p m)) [ true ↦ refl | false ↦ refl ]
-
-  any-never : (l : List A) → any (λ a. false) l ≡ false
-  any-never [] = refl
-  any-never (x ∷ l) = any-never l
-
   -- slots freed by one test and then by another
   freed-twice : (p q : A → Bool) (l : List (Option A)) → freed q (freed p l) ≡ freed (λ a. p a || q a) l
   freed-twice p q [] = refl
@@ -58,11 +49,11 @@ module _ {A : Type 0} (key : A → List ℕ) (ks ms : List (List ℕ)) where
       ∙ freed-ext (λ a. listed ks (key a) || listed ms (key a)) (λ a. listed (ks ++ ms) (key a)) (λ a. sym (any-append (λ b. same b (key a)) ks ms)) l
 
 pub break-more : (ks ms : List (List ℕ)) (t : Table) → breakBy ms (breakBy ks t) ≡ breakBy (ks ++ ms) t
-break-more ks ms t = ap₂ (table (t .latest)) (freed-more (λ k. k .key) ks ms (t .keys)) (freed-more (λ r. r .key) ks ms (t .names))
+break-more ks ms t = ap₂ (holding t) (freed-more (λ k. k .key) ks ms (t .keys)) (freed-more (λ r. r .key) ks ms (t .names))
 
 pub break-none : (t : Table) → breakBy [] t ≡ t
 break-none t =
-    ap₂ (table (t .latest)) (freed-none (λ k. false) (t .keys) (any-never (used (t .keys)))) (freed-none (λ r. false) (t .names) (any-never (used (t .names))))
+    ap₂ (holding t) (freed-none (λ k. false) (t .keys) (any-nothing (used (t .keys)))) (freed-none (λ r. false) (t .names) (any-nothing (used (t .names))))
 
 -- one key
 by-key : {A : Type 0} (field : A → List ℕ) (key : List ℕ) (l : List (Option A)) → freed (λ a. same (field a) key) l ≡ freed (λ a. listed (key ∷ []) (field a)) l
@@ -70,7 +61,7 @@ by-key field key l =
     freed-ext (λ a. same (field a) key) (λ a. listed (key ∷ []) (field a)) (λ a. same-turned (field a) key ∙ sym (or-false (same key (field a)))) l
 
 module _ (key : List ℕ) {b : List ℕ} {t : Table} (h : Holds b t) where
-  to-key : {d : List ℕ} → Holds d (table (t .latest) (freed (keyIs key) (t .keys)) (freed (pinnedTo key) (t .names))) → Holds d (breakBy (key ∷ []) t)
+  to-key : {d : List ℕ} → Holds d (holding t (freed (keyIs key) (t .keys)) (freed (pinnedTo key) (t .names))) → Holds d (breakBy (key ∷ []) t)
   to-key g = with-keys (by-key (λ k. k .key) key (t .keys)) (with-names (by-key (λ r. r .key) key (t .names)) g)
 
   -- a key that has no record has no names
@@ -87,7 +78,7 @@ module _ (key : List ℕ) {b : List ℕ} {t : Table} (h : Holds b t) where
 
   -- a recorded key whose names are dropped
   module _ {k : ℕ} (x : FoundAt (λ y. y .key) key (t .keys) 64 k) {d : List ℕ}
-      (g : Holds d (table (t .latest) (t .keys) (freed (pinnedTo (keyAt (getD (t .keys) k none))) (t .names)))) where
+      (g : Holds d (holding t (t .keys) (freed (pinnedTo (keyAt (getD (t .keys) k none))) (t .names)))) where
     pub broken-used : isFree (getD (decode d .keys) k none) ≡ false
     broken-used = ap (λ (v : Table). isFree (getD (v .keys) k none)) (holds-decode g) ∙ x .in-use
 

@@ -14,16 +14,18 @@ use Rattle.host_name.specs.Name.{wellFormed}
 use Rattle.host_name.proofs.Names.{name-length}
 use Rattle.tack_extension.specs.Tack.{publicKey}
 use Rattle.pin_model.specs.Slots.{used, hasFree, freed, changed, placed}
-use Rattle.pin_model.specs.Table.{KeyRecord, NameRecord, Table, table, keyIs, nameIs, nameRecorded, keyRecorded, keysNamedBy, without, soundTable}
+use Rattle.pin_model.specs.Table.{KeyRecord, NameRecord, Table, holding, keyIs, nameIs, nameRecorded, keyRecorded, keysNamedBy, without, soundTable}
 use Rattle.pin_model.specs.Layout.{keyAt, decode}
 use Rattle.pin_model.specs.Judge.{wantsRecord, roomFor, newName, newKey, create}
 use Rattle.pin_model.proofs.Places.{any-at, count-set}
 use Rattle.pin_model.proofs.Lists.{count-none, count-some}
 use Rattle.pin_model.proofs.Slots.{count-gone}
+use Rattle.pin_model.proofs.SoundFacts.{name-once}
 use Rattle.pin_model.proofs.SoundCreation.{wanted-key}
 use Rattle.pin_records.specs.Holds.{Holds, Stored, withName, withLatest, withoutUnnamed}
 use Rattle.pin_records.specs.Find.{holds, isFree}
-use Rattle.pin_records.specs.Store.{nameRecord, OnlyHere}
+use Rattle.pin_records.specs.Store.{nameRecord, Fresh}
+use Rattle.pin_records.proofs.DistinctNames.{only-fresh}
 use Rattle.pin_records.proofs.Placed.{Used, is-used, holds-used}
 use Rattle.pin_records.proofs.HeldSlots.{holds-decode, holds-stored}
 use Rattle.pin_records.proofs.Found.{FoundAt, FreeAt, found-freed, found-changed}
@@ -59,18 +61,26 @@ module _ (name : List ℕ) (names : List (Option NameRecord)) (n : ℕ) where
   pub holds-name : FoundAt (λ r. r .name) name names 128 n → holds (nameIs name) (getD names n none) ≡ true
   holds-name x = ap (holds (nameIs name)) (x .there) ∙ same-eq (x .what .name) name (x .its)
 
--- a record in slot n, where no slot has the name and key slot k has the key
+-- a name that has no record may have one in slot n
+pub unrecorded-fresh : (name key : List ℕ) {b : List ℕ} {t : Table} → Holds b t → (n : ℕ) → n < 128 → nameRecorded name t ≡ false
+    → Fresh (t .two) name key n (t .names)
+unrecorded-fresh name key {b} {t} h n l e =
+    only-fresh (t .two) name key n (t .names) (none-other (nameIs name) (t .names) n (rw (h .fits .nameSlots) l) e)
+
+-- a record in slot n, where key slot k has the key
 module _ (name tack : List ℕ) (clock : ℕ) (t : Table) {d : List ℕ} (g : Holds d (withKeys (keysTaken tack t) t)) (n k : ℕ)
     (its : holds (keyIs (publicKey tack)) (getD (keysTaken tack t) k none) ≡ true) where
-  pub slots-ready : n < 128 → k < 64 → wellFormed name ≡ true → nameRecorded name t ≡ false
-      → Stored d × (n < 128) × (k < 64) × (isFree (getD (decode d .keys) k none) ≡ false) × (length name ≤ 253) × OnlyHere name n (decode d .names)
+  pub slots-ready : n < 128 → k < 64 → wellFormed name ≡ true → Fresh (t .two) name (publicKey tack) n (t .names)
+      → Stored d × (n < 128) × (k < 64) × (isFree (getD (decode d .keys) k none) ≡ false) × (length name ≤ 253)
+      × Fresh (decode d .two) name (keyAt (getD (decode d .keys) k none)) n (decode d .names)
   slots-ready n-below k-below formed fresh = (
     holds-stored g,
     n-below,
     k-below,
     ap (λ (u : Table). isFree (getD (u .keys) k none)) (holds-decode g) ∙ holds-used (keyIs (publicKey tack)) (getD (keysTaken tack t) k none) its,
     name-length name formed .1,
-    ap (λ (u : Table). any (nameIs name) (used (set (u .names) n none))) (holds-decode g) ∙ none-other (nameIs name) (t .names) n (rw (g .fits .nameSlots) n-below) fresh,
+    subst (λ (u : Table). Fresh (u .two) name (keyAt (getD (u .keys) k none)) n (u .names)) (sym (holds-decode g))
+        (subst (λ (key : List ℕ). Fresh (t .two) name key n (t .names)) (sym (key-held (publicKey tack) (getD (keysTaken tack t) k none) its)) fresh),
   )
 
   pub record-stored : {a : List ℕ} → Holds a (withName (decode d) n (some (nameRecord name (keyAt (getD (decode d .keys) k none)) clock)))
@@ -106,15 +116,15 @@ module _ (name tack : List ℕ) (clock : ℕ) (t : Table) (sound : soundTable (w
         ∙ ap (λ (b : Bool). cond b (changed (nameIs name) (λ r. new) (t .names)) (placed new (t .names))) (sym unrecorded)) g)
 
   -- a name whose record, in slot n, is replaced
-  module _ {n : ℕ} (x : FoundAt (λ r. r .name) name (t .names) 128 n) (wanted : wantsRecord (of name clock) tack t ≡ true) where
+  module _ (one : t .two ≡ false) {n : ℕ} (x : FoundAt (λ r. r .name) name (t .names) 128 n) (wanted : wantsRecord (of name clock) tack t ≡ true) where
     gone : set (t .names) n none ≡ freed (nameIs name) (t .names)
-    gone = sym (found-freed x (facts name tack clock t sound .nameOnce name))
+    gone = sym (found-freed x (name-once (facts name tack clock t sound) one name))
 
     pub removed : {a d : List ℕ} → Holds a (withName t n none) → Holds d (withoutUnnamed (decode a)) → Holds d (without name t)
     removed {a} {d} h g =
         subst (Holds d)
         (ap withoutUnnamed (holds-decode h)
-        ∙ ap (λ (names : List (Option NameRecord)). table (t .latest) (keysNamedBy names (t .keys)) names) gone) g
+        ∙ ap (λ (names : List (Option NameRecord)). holding t (keysNamedBy names (t .keys)) names) gone) g
 
     -- the area after the removal has no record of the name, and room for the key
     module _ {d : List ℕ} (g : Holds d (without name t)) where
@@ -133,7 +143,7 @@ module _ (name tack : List ℕ) (clock : ℕ) (t : Table) (sound : soundTable (w
       replaced {a} h =
           with-names
           (ap (λ (names : List (Option NameRecord)). set names n (some new)) (sym gone) ∙ set-set (t .names) n none (some new)
-          ∙ sym (found-changed x (facts name tack clock t sound .nameOnce name) (λ r. new))
+          ∙ sym (found-changed x (name-once (facts name tack clock t sound) one name) (λ r. new))
           ∙ ap (λ (b : Bool). cond b (changed (nameIs name) (λ r. new) (t .names)) (placed new (t .names))) (sym (x .recorded)))
           (subst (λ (u : Table). Holds a (withName (withKeys (keysTaken tack u) u) n (some new))) (holds-decode g) h)
 

@@ -1,8 +1,8 @@
 -- Step 2(i) on an area: the pin of the name and the tack's key lasts longer, and no other. Assumes nothing.
-use mathlib.Core.Path.{_≡_, sym, _∙_, ap, ap₂}
+use mathlib.Core.Path.{_≡_, refl, sym, _∙_, ap, subst}
 use mathlib.Core.Bool.{Bool, true, false, _&&_}
 use mathlib.Core.List.{List}
-use mathlib.Core.Option.{none}
+use mathlib.Core.Option.{Option, none, some}
 use Prim.Native.Nat.{ℕ, _+_, _-_, _≤_, min}
 use native.Mathlib.Omega.{arith}
 use lib.ListN.{getD, set}
@@ -19,10 +19,24 @@ use Rattle.pin_records.specs.Holds.{Holds, withName}
 use Rattle.pin_records.specs.Find.{holds, initialAt}
 use Rattle.pin_records.specs.Store.{withEnd}
 use Rattle.pin_records.proofs.Placed.{changed-none, changed-set}
+use Rattle.pin_records.proofs.DistinctNames.{one-record}
 use Rattle.pin_records.proofs.Found.{FoundAt}
-use Rattle.pin_steps.specs.Steps.{extendBy}
+use Rattle.pin_steps.specs.Steps.{extendedAt, extendBy}
 use Rattle.pin_steps.proofs.Tacks.{with-names}
 use Rattle.pin_steps.proofs.OneRecord.{found-any}
+
+-- the end as it is computed
+extended-slot : (clock : ℕ) (x : Option NameRecord) {end initial : ℕ} → initial ≡ initialAt x → end ≡ clock + min thirtyDays (clock - initial)
+    → withEnd end x ≡ extendedAt clock x
+extended-slot clock none since until = refl
+extended-slot clock (some r) since until =
+    ap (λ (end : ℕ). withEnd end (some r)) (until ∙ ap (λ (i : ℕ). clock + min thirtyDays (clock - i)) since)
+
+pub extended-there : (t : Table) (n clock : ℕ) {d : List ℕ} {end initial : ℕ} → initial ≡ initialAt (getD (t .names) n none)
+    → end ≡ clock + min thirtyDays (clock - initial) → Holds d (withName t n (withEnd end (getD (t .names) n none)))
+    → Holds d (withName t n (extendedAt clock (getD (t .names) n none)))
+extended-there t n clock {d} since until g =
+    subst (λ (x : Option NameRecord). Holds d (withName t n x)) (extended-slot clock (getD (t .names) n none) since until) g
 
 module _ (name tack : List ℕ) (clock : ℕ) {b : List ℕ} {t : Table} (h : Holds b t) where
   -- the record has the name and the tack's key
@@ -38,23 +52,20 @@ module _ (name tack : List ℕ) (clock : ℕ) {b : List ℕ} {t : Table} (h : Ho
   pub extend-absent : any (nameIs name) (used (t .names)) ≡ false → Holds b (extendBy true name tack clock t)
   extend-absent e = extend-none (none-implied both (nameIs name) named (used (t .names)) e)
 
-  module _ {n : ℕ} (x : FoundAt (λ r. r .name) name (t .names) 128 n) where
+  module _ (one : t .two ≡ false) {n : ℕ} (x : FoundAt (λ r. r .name) name (t .names) 128 n) where
     pub extend-other : pinnedTo (publicKey tack) (x .what) ≡ false → Holds b (extendBy true name tack clock t)
     extend-other e =
-        extend-none (found-any x (h .nameOnce name) (pinnedTo (publicKey tack)) ∙ ap (holds (pinnedTo (publicKey tack))) (x .there) ∙ e)
+        extend-none (found-any x (one-record (h .distinct) one name) (pinnedTo (publicKey tack)) ∙ ap (holds (pinnedTo (publicKey tack))) (x .there) ∙ e)
 
-    pub found-begun : {initial : ℕ} → BegunBy clock t → initial ≡ initialAt (getD (t .names) n none) → initial ≤ clock
-    found-begun begun since = omega (arith, since ∙ ap initialAt (x .there), begun n (x .what) (x .there))
+    pub found-begun : BegunBy clock t → initialAt (getD (t .names) n none) ≤ clock
+    found-begun begun = omega (arith, ap initialAt (x .there), begun n (x .what) (x .there))
 
-    pub extend-stored : {d : List ℕ} {end initial : ℕ} → pinnedTo (publicKey tack) (x .what) ≡ true → initial ≡ initialAt (getD (t .names) n none)
-        → end ≡ clock + min thirtyDays (clock - initial) → Holds d (withName t n (withEnd end (getD (t .names) n none)))
+    pub extend-stored : {d : List ℕ} → pinnedTo (publicKey tack) (x .what) ≡ true → Holds d (withName t n (extendedAt clock (getD (t .names) n none)))
         → Holds d (extendBy true name tack clock t)
-    extend-stored {d} {end} {initial} e since until g =
+    extend-stored {d} e g =
         let r : NameRecord = x .what in
-        let own : initial ≡ r .initial = since ∙ ap initialAt (x .there) in
-        let its : end ≡ clock + min thirtyDays (clock - r .initial) = until ∙ ap (λ (i : ℕ). clock + min thirtyDays (clock - i)) own in
         with-names
-        (ap (set (t .names) n) (ap₂ withEnd its (x .there))
+        (ap (λ (o : Option NameRecord). set (t .names) n (extendedAt clock o)) (x .there)
         ∙ sym (changed-set both (extendedTo clock) (t .names) n r (x .there)
         (and-both (nameIs name r) (pinnedTo (publicKey tack) r) (same-eq (r .name) name (x .its)) e)
-        (omega (arith, h .nameOnce name, count-implied both (nameIs name) named (used (t .names)))))) g
+        (omega (arith, one-record (h .distinct) one name, count-implied both (nameIs name) named (used (t .names)))))) g

@@ -8,21 +8,18 @@ use lib.ListN.{getD}
 use Rattle.octets.specs.Octets.{same}
 use Rattle.tack_extension.specs.Tack.{publicKey}
 use Rattle.pin_model.specs.Table.{NameRecord, Table, keyIs, pinnedTo}
-use Rattle.pin_model.proofs.Places.{all-used-at}
-use Rattle.pin_model.proofs.KeyPlaces.{PlaceFound, place-found}
-use Rattle.pin_model.proofs.Fits.{nameFits, name-fits}
+use Rattle.pin_model.proofs.KeyPlaces.{PlaceFound}
 use Rattle.pin_records.specs.Holds.{Holds}
 use Rattle.pin_records.specs.Find.{holds}
 use Rattle.pin_records.specs.Read.{pinnedKey}
+use Rattle.pin_records.proofs.PinnedKeys.{pinned-place}
 
 module _ {b : List ℕ} {t : Table} (h : Holds b t) (n : ℕ) (r : NameRecord) (there : getD (t .names) n none ≡ some r) where
-  pub pinned-place : PlaceFound (r .key) (t .keys)
-  pinned-place = place-found (r .key) (t .keys) (name-fits (t .keys) r (all-used-at (nameFits (t .keys)) (t .names) n r (h .fits .namesFit) there) .recorded)
-
   pub pinned-test : (tack : List ℕ) {key : List ℕ} {k : ℕ} {v : Bool} → key ≡ publicKey tack → k ≡ pinnedKey (t .keys) (getD (t .names) n none)
       → v ≡ holds (keyIs key) (getD (t .keys) k none) → v ≡ pinnedTo (publicKey tack) r
-  pinned-test tack {key} its place e =
+  pinned-test tack {key} its at e =
+      let place : PlaceFound (r .key) (t .keys) = pinned-place h n r there in
       e
-      ∙ ap₂ (λ (κ : List ℕ) (j : ℕ). holds (keyIs κ) (getD (t .keys) j none)) its (place ∙ ap (pinnedKey (t .keys)) there)
-      ∙ ap (holds (keyIs (publicKey tack))) (pinned-place .there)
-      ∙ ap (λ (κ : List ℕ). same κ (publicKey tack)) (pinned-place .its-key)
+      ∙ ap₂ (λ (κ : List ℕ) (j : ℕ). holds (keyIs κ) (getD (t .keys) j none)) its (at ∙ ap (pinnedKey (t .keys)) there)
+      ∙ ap (holds (keyIs (publicKey tack))) (place .there)
+      ∙ ap (λ (κ : List ℕ). same κ (publicKey tack)) (place .its-key)

@@ -15,7 +15,7 @@ use Rattle.pin_model.specs.Layout.{keyAt}
 use Rattle.pin_model.specs.Judge.{roomFor}
 use Rattle.pin_model.proofs.Places.{any-at, any-none}
 use Rattle.pin_model.proofs.KeyPlaces.{PlaceFound}
-use Rattle.pin_model.proofs.SoundFacts.{SoundFacts, sound-facts}
+use Rattle.pin_model.proofs.SoundFacts.{SoundFacts, sound-facts, name-once}
 use Rattle.pin_model.proofs.SoundRemoval.{without-unrecorded}
 use Rattle.pin_model.proofs.Room.{lastOnKey, roomFor-slots}
 use Rattle.pin_records.specs.Holds.{Holds, withLatest}
@@ -23,9 +23,9 @@ use Rattle.pin_records.specs.Find.{holds, isFree}
 use Rattle.pin_records.specs.Read.{pinnedKey}
 use Rattle.pin_records.proofs.Placed.{Used, is-used}
 use Rattle.pin_records.proofs.Found.{FoundAt, found-freed}
+use Rattle.pin_records.proofs.PinnedKeys.{pinned-place}
 use Rattle.pin_steps.specs.Steps.{of, keyOfName, keyRoom}
 use Rattle.pin_steps.proofs.OneRecord.{found-any}
-use Rattle.pin_steps.proofs.PinnedTests.{pinned-place}
 
 -- key slot k has the key that the record of a name slot is pinned to
 pub record PinAt (keys : List (Option KeyRecord)) (x : Option NameRecord) (k : ℕ) : Type 0 where
@@ -119,10 +119,10 @@ module _ (name tack : List ℕ) (clock : ℕ) (t : Table) (sound : soundTable (w
     abbrev last : NameRecord → Bool
     last r = not (any (pinnedTo (r .key)) (used (without name t .names)))
 
-    pub room-last : keyRoom tack t ≡ false → not (any (pinnedTo (keyOfName (getD (t .names) n none))) (used (set (t .names) n none))) ≡ roomFor (of name clock) tack t
-    room-last e =
-        ap₂ (λ (o : Option NameRecord) (l : List (Option NameRecord)). not (any (pinnedTo (keyOfName o)) (used l))) (x .there) (sym (found-freed x (facts .nameOnce name)))
-        ∙ sym (found-any x (facts .nameOnce name) last ∙ ap (holds last) (x .there))
+    pub room-last : t .two ≡ false → keyRoom tack t ≡ false → not (any (pinnedTo (keyOfName (getD (t .names) n none))) (used (set (t .names) n none))) ≡ roomFor (of name clock) tack t
+    room-last one e =
+        ap₂ (λ (o : Option NameRecord) (l : List (Option NameRecord)). not (any (pinnedTo (keyOfName o)) (used l))) (x .there) (sym (found-freed x (name-once facts one name)))
+        ∙ sym (found-any x (name-once facts one name) last ∙ ap (holds last) (x .there))
         ∙ sym (room-old ∙ go (keyRecorded (publicKey tack) t) (hasFree (t .keys)) e)
       where
         go : (a b : Bool) → (a || b) ≡ false → (a || (b || lastOnKey name t)) ≡ lastOnKey name t

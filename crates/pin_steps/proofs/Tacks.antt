@@ -1,6 +1,6 @@
 -- What the steps share: comparing the other way round, an area's table put another way, a tack's key among the slots. Assumes nothing.
 use mathlib.Core.Path.{_≡_, sym, _∙_, ap, subst}
-use mathlib.Core.Bool.{false}
+use mathlib.Core.Bool.{Bool, false}
 use mathlib.Core.List.{List}
 use mathlib.Core.Option.{Option}
 use Prim.Native.Nat.{ℕ}
@@ -25,12 +25,12 @@ same-turned xs ys =
     both-ways (same xs ys) (same ys xs) (λ e. same-eq ys xs (sym (same-true xs ys e))) (λ e. same-eq xs ys (sym (same-true ys xs e)))
 
 -- the keys, or the names, of a table that an area holds, put another way
-module _ {d : List ℕ} {latest : ℕ} where
-  pub with-keys : {keys keys' : List (Option KeyRecord)} {names : List (Option NameRecord)} → keys ≡ keys' → Holds d (table latest keys names) → Holds d (table latest keys' names)
-  with-keys {names = names} e h = subst (λ (l : List (Option KeyRecord)). Holds d (table latest l names)) e h
+module _ {d : List ℕ} {two : Bool} {latest : ℕ} where
+  pub with-keys : {keys keys' : List (Option KeyRecord)} {names : List (Option NameRecord)} → keys ≡ keys' → Holds d (table two latest keys names) → Holds d (table two latest keys' names)
+  with-keys {names = names} e h = subst (λ (l : List (Option KeyRecord)). Holds d (table two latest l names)) e h
 
-  pub with-names : {keys : List (Option KeyRecord)} {names names' : List (Option NameRecord)} → names ≡ names' → Holds d (table latest keys names) → Holds d (table latest keys names')
-  with-names {keys = keys} e h = subst (λ (l : List (Option NameRecord)). Holds d (table latest keys l)) e h
+  pub with-names : {keys : List (Option KeyRecord)} {names names' : List (Option NameRecord)} → names ≡ names' → Holds d (table two latest keys names) → Holds d (table two latest keys names')
+  with-names {keys = keys} e h = subst (λ (l : List (Option NameRecord)). Holds d (table two latest keys l)) e h
 
 -- the part of a tack that is its key
 module _ (tack : List ℕ) {key : List ℕ} (its : key ≡ publicKey tack) where

@@ -15,6 +15,7 @@ use Rattle.pin_model.proofs.Lists.{none-implied}
 use Rattle.pin_records.specs.Holds.{Holds}
 use Rattle.pin_records.specs.Find.{holds}
 use Rattle.pin_records.specs.Read.{pinnedKey}
+use Rattle.pin_records.proofs.DistinctNames.{one-record}
 use Rattle.pin_records.proofs.Found.{FoundAt}
 use Rattle.pin_steps.specs.Steps.{of}
 use Rattle.pin_steps.proofs.OneRecord.{found-any}
@@ -27,13 +28,13 @@ module _ (name tack : List ℕ) (clock : ℕ) {b : List ℕ} {t : Table} (h : Ho
   pub wanted-new : any (nameIs name) (used (t .names)) ≡ false → true ≡ wantsRecord (of name clock) tack t
   wanted-new e = sym (ap not (none-implied (λ r. nameIs name r && keeps r) (nameIs name) (λ r. and-left (nameIs name r) (keeps r)) (used (t .names)) e))
 
-  module _ {n : ℕ} (x : FoundAt (λ r. r .name) name (t .names) 128 n) {k : ℕ} {key : List ℕ}
+  module _ (one : t .two ≡ false) {n : ℕ} (x : FoundAt (λ r. r .name) name (t .names) 128 n) {k : ℕ} {key : List ℕ}
       (at : k ≡ pinnedKey (t .keys) (getD (t .names) n none)) (its : key ≡ publicKey tack) where
     -- by whether the key slot has the tack's key
     wanted-by : (v : Bool) → holds (keyIs key) (getD (t .keys) k none) ≡ v → not (v || active clock (x .what)) ≡ wantsRecord (of name clock) tack t
     wanted-by v e =
         ap (λ (own : Bool). not (own || active clock (x .what))) (pinned-test h n (x .what) (x .there) tack its at (sym e))
-        ∙ sym (ap not (found-any x (h .nameOnce name) keeps ∙ ap (holds keeps) (x .there)))
+        ∙ sym (ap not (found-any x (one-record (h .distinct) one name) keeps ∙ ap (holds keeps) (x .there)))
 
     pub wanted-own : holds (keyIs key) (getD (t .keys) k none) ≡ true → false ≡ wantsRecord (of name clock) tack t
     wanted-own e = wanted-by true e

@@ -8,17 +8,22 @@ use Prim.Native.Nat.{ℕ}
 use Rattle.octets.specs.Octets.{any}
 use Rattle.tack_extension.specs.Tack.{publicKey}
 use Rattle.pin_model.specs.Slots.{used, hasFree, freed, changed, placed}
-use Rattle.pin_model.specs.Table.{KeyRecord, NameRecord, Table, table, nameIs, pinnedTo, active, keyRecorded}
+use Rattle.pin_model.specs.Table.{KeyRecord, NameRecord, Table, holding, nameIs, pinnedTo, active, keyRecorded}
 use Rattle.pin_model.specs.Judge.{Connection, connection, extendedTo, listed, shows, wantsRecord, roomFor, newKey, keysWith, namesWith}
 
 -- a connection of which a step looks at the name and the clock alone
 abbrev pub of : List ℕ → ℕ → Connection
 of name clock = connection clock name false [] [] false false false 0
 
+-- the record of a slot with its end by step 2(i)
+abbrev pub extendedAt : ℕ → Option NameRecord → Option NameRecord
+extendedAt clock none = none
+extendedAt clock (some r) = some (extendedTo clock r)
+
 -- step 2(i), by whether activation is enabled
 abbrev pub extendBy : Bool → List ℕ → List ℕ → ℕ → Table → Table
 extendBy on name tack clock t =
-    table (t .latest) (t .keys)
+    holding t (t .keys)
     (changed (λ r. on && (nameIs name r && pinnedTo (publicKey tack) r)) (extendedTo clock) (t .names))
 
 -- whether step 2(ii) wants a record and has no room for it
@@ -27,7 +32,7 @@ crowded name clock tack t = wantsRecord (of name clock) tack t && not (roomFor (
 
 -- the table with the new record of step 2(ii)
 abbrev pub renewed : List ℕ → ℕ → List ℕ → Table → Table
-renewed name clock tack t = table (t .latest) (keysWith (of name clock) tack t) (namesWith (of name clock) tack t)
+renewed name clock tack t = holding t (keysWith (of name clock) tack t) (namesWith (of name clock) tack t)
 
 -- the key that a used name slot is pinned to
 abbrev pub keyOfName : Option NameRecord → List ℕ
@@ -44,12 +49,12 @@ keyRoom tack t = keyRecorded (publicKey tack) t || hasFree (t .keys)
 
 -- a table with other key slots
 abbrev pub withKeys : List (Option KeyRecord) → Table → Table
-withKeys keys t = table (t .latest) keys (t .names)
+withKeys keys t = holding t keys (t .names)
 
 -- step 3, by the broken keys
 abbrev pub breakBy : List (List ℕ) → Table → Table
 breakBy broken t =
-    table (t .latest) (freed (λ k. listed broken (k .key)) (t .keys)) (freed (λ r. listed broken (r .key)) (t .names))
+    holding t (freed (λ k. listed broken (k .key)) (t .keys)) (freed (λ r. listed broken (r .key)) (t .names))
 
 -- the verdict of step 4, by the tack that is shown
 abbrev pub activeFor : List ℕ → ℕ → NameRecord → Bool

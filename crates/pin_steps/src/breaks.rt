@@ -16,7 +16,7 @@ ghost use lib.ListN.{length, getD};
 ghost use Rattle.tack_extension.specs.Extension.{breaksLength};
 ghost use Rattle.tack_extension.specs.Tack.{breakKey, breakSignatures};
 ghost use Rattle.pin_model.specs.Slots.{freed};
-ghost use Rattle.pin_model.specs.Table.{table, pinnedTo};
+ghost use Rattle.pin_model.specs.Table.{holding, pinnedTo};
 ghost use Rattle.pin_model.specs.Layout.{decode, keyAt};
 ghost use Rattle.pin_records.specs.Holds.{Holds, Stored};
 ghost use Rattle.pin_records.specs.Find.{isFree};
@@ -25,7 +25,7 @@ ghost use Rattle.pin_steps.specs.Steps.{breakBy};
 // The names of a recorded key go.
 fn drop_names(area: &mut [u8], k: KeySlot)
     requires { ⌜ Stored (now area) × (k .0 < 64) × (isFree (getD (decode (now area) .keys) (k .0) none) ≡ false) ⌝ }
-    ensures { λ _. ⌜ Holds (now (area .exit)) (table (decode (now (area .entry)) .latest) (decode (now (area .entry)) .keys) (freed (pinnedTo (keyAt (getD (decode (now (area .entry)) .keys) (k .0) none))) (decode (now (area .entry)) .names))) ⌝ }
+    ensures { λ _. ⌜ Holds (now (area .exit)) (holding (decode (now (area .entry))) (decode (now (area .entry)) .keys) (freed (pinnedTo (keyAt (getD (decode (now (area .entry)) .keys) (k .0) none))) (decode (now (area .entry)) .names))) ⌝ }
 {
     let mut n = 0;
     while n < NAME_SLOTS {

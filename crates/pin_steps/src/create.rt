@@ -22,13 +22,14 @@ ghost use Rattle.tack_extension.specs.Tack.{publicKey};
 ghost use Rattle.pin_model.specs.Slots.{used};
 ghost use Rattle.pin_model.specs.Table.{soundTable, keyIs, nameIs, nameRecorded, pinnedTo};
 ghost use Rattle.pin_model.specs.Layout.{decode};
-ghost use Rattle.pin_model.specs.Judge.{wantsRecord, roomFor, newName, create};
+ghost use Rattle.pin_model.specs.Judge.{wantsRecord, roomFor, madeFor, create};
 ghost use Rattle.pin_records.specs.Holds.{Holds, Stored, withName, withLatest};
 ghost use Rattle.pin_records.specs.Find.{holds, isFree};
+ghost use Rattle.pin_records.specs.Store.{Fresh};
 ghost use Rattle.pin_steps.specs.Steps.{of, crowded, renewed, keyOfName, keyRoom, keysTaken, withKeys};
 
 fn wants_record(area: &[u8], name: &[u8], tack: &[u8], clock: Minutes) -> bool
-    requires { ⌜ Stored (now area) × (length (now tack) ≡ 166) ⌝ }
+    requires { ⌜ Stored (now area) × (length (now tack) ≡ 166) × (decode (now area) .two ≡ false) ⌝ }
     ensures { λ r. ⌜ r ≡ wantsRecord (of (now (name .entry)) (clock .0)) (now (tack .entry)) (decode (now (area .entry))) ⌝ }
 {
     let FoundName::At(n) = find::find_name(area, name) else {
@@ -60,7 +61,7 @@ fn last_on_key(area: &[u8], n: NameSlot) -> bool
 }
 
 // Whether the tack's key has a record, or a slot is free for one.
-fn key_fits(area: &[u8], tack: &[u8]) -> bool
+pub fn key_fits(area: &[u8], tack: &[u8]) -> bool
     requires { ⌜ Stored (now area) × (length (now tack) ≡ 166) ⌝ }
     ensures { λ r. ⌜ r ≡ keyRoom (now (tack .entry)) (decode (now (area .entry))) ⌝ }
 {
@@ -75,7 +76,7 @@ fn key_fits(area: &[u8], tack: &[u8]) -> bool
 
 // Room for a record: a new name takes a free slot; a recorded one keeps its own, and its key goes if no other name is on it.
 fn has_room(area: &[u8], name: &[u8], tack: &[u8], clock: Minutes) -> bool
-    requires { ⌜ Stored (now area) × (length (now tack) ≡ 166) × (soundTable (withLatest (decode (now area)) (clock .0)) ≡ true) ⌝ }
+    requires { ⌜ Stored (now area) × (length (now tack) ≡ 166) × (soundTable (withLatest (decode (now area)) (clock .0)) ≡ true) × (decode (now area) .two ≡ false) ⌝ }
     ensures { λ r. ⌜ r ≡ roomFor (of (now (name .entry)) (clock .0)) (now (tack .entry)) (decode (now (area .entry))) ⌝ }
 {
     let FoundName::At(n) = find::find_name(area, name) else {
@@ -106,10 +107,10 @@ fn take_key(area: &mut [u8], tack: &[u8]) -> KeySlot
     k
 }
 
-// A record in slot n for a name that has none. There is room for its key.
-fn store_new(area: &mut [u8], n: NameSlot, name: &[u8], tack: &[u8], clock: Minutes)
-    requires { ⌜ Stored (now area) × (n .0 < 128) × (length (now tack) ≡ 166) × (wellFormed (now name) ≡ true) × (nameRecorded (now name) (decode (now area)) ≡ false) × (keyRoom (now tack) (decode (now area)) ≡ true) ⌝ }
-    ensures { λ _. ⌜ Holds (now (area .exit)) (withName (withKeys (keysTaken (now (tack .entry)) (decode (now (area .entry)))) (decode (now (area .entry)))) (n .0) (some (newName (of (now (name .entry)) (clock .0)) (now (tack .entry))))) ⌝ }
+// A record of the name and the tack's key in slot n, which may take it. There is room for the key.
+pub fn store_new(area: &mut [u8], n: NameSlot, name: &[u8], tack: &[u8], clock: Minutes)
+    requires { ⌜ Stored (now area) × (n .0 < 128) × (length (now tack) ≡ 166) × (wellFormed (now name) ≡ true) × Fresh (decode (now area) .two) (now name) (publicKey (now tack)) (n .0) (decode (now area) .names) × (keyRoom (now tack) (decode (now area)) ≡ true) ⌝ }
+    ensures { λ _. ⌜ Holds (now (area .exit)) (withName (withKeys (keysTaken (now (tack .entry)) (decode (now (area .entry)))) (decode (now (area .entry)))) (n .0) (some (madeFor (now (name .entry)) (clock .0) (now (tack .entry))))) ⌝ }
 {
     let k = take_key(area, tack);
     store::store_name(area, n, k, name, clock);
@@ -128,7 +129,7 @@ fn add(area: &mut [u8], name: &[u8], tack: &[u8], clock: Minutes)
 
 // A record in place of the one in slot n, where there is room: it keeps its slot, and its old key goes if no name is left.
 fn replace(area: &mut [u8], n: NameSlot, name: &[u8], tack: &[u8], clock: Minutes)
-    requires { ⌜ Stored (now area) × (n .0 < 128) × (length (now tack) ≡ 166) × (wellFormed (now name) ≡ true) × (soundTable (withLatest (decode (now area)) (clock .0)) ≡ true) × (holds (nameIs (now name)) (getD (decode (now area) .names) (n .0) none) ≡ true) × (wantsRecord (of (now name) (clock .0)) (now tack) (decode (now area)) ≡ true) × (roomFor (of (now name) (clock .0)) (now tack) (decode (now area)) ≡ true) ⌝ }
+    requires { ⌜ Stored (now area) × (n .0 < 128) × (length (now tack) ≡ 166) × (wellFormed (now name) ≡ true) × (soundTable (withLatest (decode (now area)) (clock .0)) ≡ true) × (holds (nameIs (now name)) (getD (decode (now area) .names) (n .0) none) ≡ true) × (wantsRecord (of (now name) (clock .0)) (now tack) (decode (now area)) ≡ true) × (roomFor (of (now name) (clock .0)) (now tack) (decode (now area)) ≡ true) × (decode (now area) .two ≡ false) ⌝ }
     ensures { λ _. ⌜ Holds (now (area .exit)) (renewed (now (name .entry)) (clock .0) (now (tack .entry)) (decode (now (area .entry)))) ⌝ }
 {
     remove::clear_name(area, n);
@@ -138,7 +139,7 @@ fn replace(area: &mut [u8], n: NameSlot, name: &[u8], tack: &[u8], clock: Minute
 
 // Step 2(ii) whole. The answer is 'no room', with which nothing changes.
 pub fn create_record(area: &mut [u8], name: &[u8], tack: &[u8], clock: Minutes) -> bool
-    requires { ⌜ Stored (now area) × (length (now tack) ≡ 166) × (wellFormed (now name) ≡ true) × (soundTable (withLatest (decode (now area)) (clock .0)) ≡ true) ⌝ }
+    requires { ⌜ Stored (now area) × (length (now tack) ≡ 166) × (wellFormed (now name) ≡ true) × (soundTable (withLatest (decode (now area)) (clock .0)) ≡ true) × (decode (now area) .two ≡ false) ⌝ }
     ensures { λ r. ⌜ (r ≡ crowded (now (name .entry)) (clock .0) (now (tack .entry)) (decode (now (area .entry)))) × Holds (now (area .exit)) (create (of (now (name .entry)) (clock .0)) (now (tack .entry)) (decode (now (area .entry)))) ⌝ }
 {
     if !wants_record(area, name, tack, clock) {

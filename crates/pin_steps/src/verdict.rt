@@ -8,7 +8,7 @@ use pin_table::minutes::Minutes;
 use pin_table::slots::NameSlot;
 use tack_extension::fields;
 ghost use mathlib.Core.Path.{_≡_};
-ghost use mathlib.Core.Bool.{true};
+ghost use mathlib.Core.Bool.{true, false};
 ghost use mathlib.Core.Option.{none};
 ghost use Prim.Native.Nat.{_<_};
 ghost use lib.ListN.{length, getD};
@@ -34,7 +34,7 @@ pub fn is_active(area: &[u8], n: NameSlot, clock: Minutes) -> bool
 
 // An empty tack is an absent one.
 pub fn verdict_for(area: &[u8], name: &[u8], tack: &[u8], clock: Minutes) -> Verdict
-    requires { ⌜ Stored (now area) × (tackLength (length (now tack)) ≡ true) ⌝ }
+    requires { ⌜ Stored (now area) × (tackLength (length (now tack)) ≡ true) × (decode (now area) .two ≡ false) ⌝ }
     ensures { λ r. ⌜ verdictNumber r ≡ verdictBy (now (name .entry)) (clock .0) (unlessEmpty (now (tack .entry))) (decode (now (area .entry))) ⌝ }
 {
     let FoundName::At(n) = find::find_name(area, name) else {

@@ -22,6 +22,10 @@ no {r} e h = sym e ∙ not-true r h
 pub yes : {r d : Bool} → r ≡ d → not r ≡ false → d ≡ true
 yes {r} e h = sym e ∙ not-false r h
 
+-- a rule d of two slots that were lent as s and r, where a call answered x for those and the code went by x
+pub said : (d : List ℕ → List ℕ → Bool) {s r a b : List ℕ} {x v : Bool} → s ≡ a → r ≡ b → x ≡ d s r → x ≡ v → d a b ≡ v
+said d e f g h = sym (ap₂ d e f) ∙ sym g ∙ h
+
 -- a lent part p, which is q, compared
 pub same-lent : (s p q : List ℕ) (at n : ℕ) → p ≡ q → length p ≡ n → same (part s at (length p)) p ≡ same (part s at n) q
 same-lent s p q at n e l = rw (l, e)

@@ -5,6 +5,7 @@ pub mod links;
 pub mod marks;
 pub mod minutes;
 pub mod name_rules;
+pub mod repeats;
 pub mod seen_marks;
 pub mod slots;
 pub mod sound;

@@ -1,8 +1,8 @@
-// No key and no name twice. Each used slot has a mark, a number below 8,192 that equal keys and equal names share; only where a
-// mark was seen before is the slot compared with all before it. So the answer is the same whatever the marks are, and a table
-// whose marks differ takes one pass.
+// No key twice, and no name more often than its edition allows. Each used slot has a mark, a number below 8,192 that equal keys
+// and equal names share; only where a mark was seen before is the slot compared with all before it, and the edition looked at. So
+// the answer is the same whatever the marks are, and a table whose marks differ takes one pass.
 use crate::key_rules;
-use crate::name_rules;
+use crate::repeats;
 use crate::seen_marks;
 use crate::seen_marks::SEEN_WORDS;
 use crate::slots;
@@ -107,7 +107,7 @@ pub fn names_distinct(area: &[u8]) -> bool
         if !seen_marks::add(&mut seen, m) {
             continue;
         }
-        if name_rules::name_twice(area, NameSlot(k)) {
+        if repeats::name_again(area, NameSlot(k)) {
             return false;
         }
     }

@@ -2,16 +2,15 @@
 use crate::minutes;
 use crate::minutes::Minutes;
 use crate::slots;
-use crate::slots::NAME_AT;
 use crate::slots::NAME_SLOT_LENGTH;
 use crate::slots::NAME_SLOTS;
 use crate::slots::NameSlot;
 ghost use mathlib.Core.Path.{_≡_};
-ghost use Prim.Native.Nat.{_≤_, _<_};
+ghost use Prim.Native.Nat.{_≤_};
 ghost use lib.ListN.{length};
 ghost use Rattle.pin_model.specs.Table.{clockLimit};
 ghost use Rattle.pin_model.specs.Layout.{areaLength};
-ghost use Rattle.pin_model.specs.Sound.{latestIn, endSound, nameFormed, nameRight, nameShaped, namesShaped, sameName, nameTwice};
+ghost use Rattle.pin_model.specs.Sound.{latestIn, endSound, nameFormed, nameRight, nameShaped, namesShaped};
 
 // The end: 0 where not present, otherwise from initial to thirty days after latest.
 pub fn end_sound(s: &[u8], latest: Minutes) -> bool
@@ -81,40 +80,4 @@ pub fn names_shaped(area: &[u8]) -> bool
         n += 1;
     }
     true
-}
-
-// Whether two slots are used and have one name.
-pub fn same_name(s: &[u8], r: &[u8]) -> bool
-    requires { ⌜ (length (now s) ≡ 272) × (length (now r) ≡ 272) ⌝ }
-    ensures { λ a. ⌜ a ≡ sameName (now (s .entry)) (now (r .entry)) ⌝ }
-{
-    if !slots::is_used(s) {
-        return false;
-    }
-    if !slots::is_used(r) {
-        return false;
-    }
-    if slots::name_length(s) != slots::name_length(r) {
-        return false;
-    }
-    let name = slots::name(r);
-    octets::same_at(s, NAME_AT, name)
-}
-
-// Whether a slot before this one has its name.
-pub fn name_twice(area: &[u8], n: NameSlot) -> bool
-    requires { ⌜ (length (now area) ≡ areaLength) × (n .0 < 128) ⌝ }
-    ensures { λ r. ⌜ r ≡ nameTwice (now (area .entry)) (n .0) ⌝ }
-{
-    let count = n.0;
-    let s = slots::name_slot(area, n);
-    let mut m = 0;
-    while m < count {
-        let r = slots::name_slot(area, NameSlot(m));
-        if same_name(s, r) {
-            return true;
-        }
-        m += 1;
-    }
-    false
 }

@@ -6,7 +6,7 @@ ghost use Prim.Native.Nat.{_<_};
 ghost use lib.ListN.{length};
 ghost use Rattle.octets.specs.Octets.{part};
 ghost use Rattle.pin_model.specs.Layout.{areaLength};
-ghost use Rattle.pin_model.specs.Sound.{latestIn, keySlot, nameSlot, isUsed, keyIn, keyNumber, nameLength, initialIn, endIn, nameIn};
+ghost use Rattle.pin_model.specs.Sound.{latestIn, ofTwo, keySlot, nameSlot, isUsed, keyIn, keyNumber, nameLength, initialIn, endIn, nameIn};
 
 pub const KEY_SLOTS: usize = 64;
 
@@ -18,7 +18,7 @@ pub const KEY_SLOT_LENGTH: usize = 72;
 // Used 0/1; key slot number; name length; end present 0/1; initial 4; end 4; four zeros; name, and zeros up to 256.
 pub const NAME_SLOT_LENGTH: usize = 272;
 
-// The latest clock 4, four zeros; the key slots; the name slots: 39,432 bytes.
+// The latest clock 4, the edition 0/1, three zeros; the key slots; the name slots: 39,432 bytes.
 pub const AREA_LENGTH: usize = NAME_SLOTS_AT + NAME_SLOTS * NAME_SLOT_LENGTH;
 
 const KEY_SLOTS_AT: usize = 8;
@@ -47,6 +47,14 @@ pub fn latest(area: &[u8]) -> Minutes
     ensures { λ r. ⌜ r .0 ≡ latestIn (now (area .entry)) ⌝ }
 {
     minutes::minutes_at(area, 0)
+}
+
+// Whether the table is of edition two.
+pub fn is_two(area: &[u8]) -> bool
+    requires { ⌜ length (now area) ≡ areaLength ⌝ }
+    ensures { λ r. ⌜ r ≡ ofTwo (now (area .entry)) ⌝ }
+{
+    area[4] == 1
 }
 
 pub fn key_slot(area: &[u8], k: KeySlot) -> &[u8]

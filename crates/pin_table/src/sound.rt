@@ -24,7 +24,10 @@ fn head_sound(area: &[u8]) -> bool
     if !minutes::not_after(slots::latest(area), Minutes::CLOCK_LIMIT) {
         return false;
     }
-    octets::zeros_at(area, 4, 4)
+    if 1 < area[4] {
+        return false;
+    }
+    octets::zeros_at(area, 5, 3)
 }
 
 // All that is asked of the names, and the keys' names.
@@ -63,7 +66,8 @@ fn rules_hold(area: &[u8]) -> bool
     names_sound(area)
 }
 
-// Whether the area is all zero, as starting leaves it. A table that has judged has a latest clock, so that it takes one look.
+// Whether the area is all zero, as starting edition one leaves it. A table that has judged has a latest clock, and one of edition
+// two its byte, so that either takes one look.
 fn is_empty(area: &[u8]) -> bool
     requires { ⌜ length (now area) ≡ areaLength ⌝ }
     ensures { λ r. ⌜ (r ≡ true → allZero (now (area .entry)) ≡ true) ⌝ }

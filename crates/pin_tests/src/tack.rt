@@ -20,7 +20,7 @@ ghost use Rattle.pin_records.specs.Holds.{Stored};
 ghost use Rattle.pin_tests.specs.Tests.{tackTests};
 
 // Whether the tack is for the server's key. A hash of another length is unequal to every target hash.
-fn targets(tack: &[u8], hash: &[u8]) -> bool
+pub fn targets(tack: &[u8], hash: &[u8]) -> bool
     requires { ⌜ length (now tack) ≡ 166 ⌝ }
     ensures { λ r. ⌜ r ≡ same (targetHash (now (tack .entry))) (now (hash .entry)) ⌝ }
 {
@@ -31,7 +31,7 @@ fn targets(tack: &[u8], hash: &[u8]) -> bool
 }
 
 // Whether the tack's generation is below the floor of its key's record.
-fn is_revoked(area: &[u8], tack: &[u8]) -> bool
+pub fn is_revoked(area: &[u8], tack: &[u8]) -> bool
     requires { ⌜ Stored (now area) × (length (now tack) ≡ 166) ⌝ }
     ensures { λ r. ⌜ r ≡ revoked (decode (now (area .entry))) (now (tack .entry)) ⌝ }
 {

@@ -1,6 +1,6 @@
 -- What a turn makes of the run so far: a call more, or nothing. Assumes nothing.
 use mathlib.Core.Path.{_≡_, refl, sym, ap, subst, _∙_}
-use mathlib.Core.Bool.{true}
+use mathlib.Core.Bool.{true, false}
 use mathlib.Core.List.{List, [], _∷_}
 use Prim.Native.Nat.{ℕ, _+_, _-_}
 use native.Mathlib.Omega.{arith}
@@ -20,10 +20,10 @@ use Rattle.night_play.specs.declared.Turn.the-variants as turn
 use Rattle.replay.specs.Progress.{Reached, Tallied}
 
 pub reached-sound : {area counts : List ℕ} {index : ℕ} → Reached area index counts → sound area ≡ true
-reached-sound w = ap sound (w .left) ∙ area-sound (w .calls)
+reached-sound w = ap sound (w .left) ∙ area-sound false (w .calls)
 
 -- before the first call
-pub at-start : {area counts : List ℕ} → area ≡ areaOf [] → counts ≡ tallied [] → Reached area 0 counts
+pub at-start : {area counts : List ℕ} → area ≡ areaOf false [] → counts ≡ tallied [] → Reached area 0 counts
 unfolding numbers
 at-start e f = record { calls = []; left = e; number = refl; tally = f }
 
@@ -38,7 +38,7 @@ one-more {area} {areaNow} {counts} c w e f =
       calls = judge c ∷ w .calls;
       left = e ∙ ap (areaAfter (folded (judge c))) (w .left);
       number = omega (arith, w .number);
-      tally = f ∙ ap (λ (b : List ℕ). counted (answer (folded (judge c)) b .number) counts) (w .left) ∙ ap (counted (answer (folded (judge c)) (areaOf (w .calls)) .number)) (w .tally);
+      tally = f ∙ ap (λ (b : List ℕ). counted (answer (folded (judge c)) b .number) counts) (w .left) ∙ ap (counted (answer (folded (judge c)) (areaOf false (w .calls)) .number)) (w .tally);
     }
 
 -- by the answer of a turn on what stands in front of the bytes between two places

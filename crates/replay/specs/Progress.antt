@@ -1,5 +1,6 @@
 -- What each turn of the program keeps: places within its two buffers, and the run that it has come through. Assumes nothing.
 use mathlib.Core.Path.{_≡_}
+use mathlib.Core.Bool.{false}
 use mathlib.Core.List.{List}
 use Prim.Native.Nat.{ℕ, _+_, _≤_}
 use lib.ListN.{length}
@@ -23,15 +24,16 @@ pub record InOrder (p : Progress) : Type 0 where
   pub end : p .to ≤ 65536
   pub room : p .at + 31 ≤ 65536
 
--- the calls played so far, the newest first: they left this area, the index is their number, and the tally counts their answers.
--- Which calls they are no contract can say, since none says what is read: it is one list for all three.
+-- the calls played so far, from the empty table of edition one, the newest first: they left this area, the index is their number,
+-- and the tally counts their answers. Which calls they are no contract can say, since none says what is read: it is one list for
+-- all three.
 pub record Reached (area : List ℕ) (index : ℕ) (counts : List ℕ) : Type 0 where
   pub calls : List Call
-  pub left : area ≡ areaOf calls
+  pub left : area ≡ areaOf false calls
   pub number : index ≡ length calls
   pub tally : counts ≡ tallied (numbers calls)
 
--- the tally of the answers to some list of calls from an empty table; by itself it does not say which
+-- the tally of the answers to some list of calls from that table; by itself it does not say which
 pub record Tallied (counts : List ℕ) : Type 0 where
   pub calls : List Call
   pub tally : counts ≡ tallied (numbers calls)

@@ -6,6 +6,7 @@ use night_play::Turn;
 use night_report::text;
 use tally::Tally;
 ghost use mathlib.Core.Path.{_≡_};
+ghost use mathlib.Core.Bool.{false};
 ghost use mathlib.Core.List.{[]};
 ghost use Prim.Native.Nat.{_+_, _≤_, _<_};
 ghost use lib.ListN.{length};
@@ -152,7 +153,7 @@ fn turn(area: &mut [u8], bytes: &mut [u8], lines: &mut [u8], p: Progress) -> Pro
 
 // Turn after turn. A night of so many calls that they could not be counted does not end in any lifetime.
 fn run(area: &mut [u8], bytes: &mut [u8], lines: &mut [u8]) -> Tally
-    requires { ⌜ (now area ≡ areaOf []) × (length (now bytes) ≡ 65536) × (length (now lines) ≡ 65536) ⌝ }
+    requires { ⌜ (now area ≡ areaOf false []) × (length (now bytes) ≡ 65536) × (length (now lines) ≡ 65536) ⌝ }
     ensures { λ r. ⌜ Tallied (r .counts) ⌝ }
 {
     let mut p = Progress {
@@ -174,7 +175,7 @@ fn run(area: &mut [u8], bytes: &mut [u8], lines: &mut [u8]) -> Tally
     p.tally
 }
 
-// A whole night, from an empty table.
+// A whole night, from the empty table of edition one.
 pub fn replay() -> Tally
     ensures { λ r. ⌜ Tallied (r .counts) ⌝ }
 {

@@ -8,16 +8,16 @@ use mir.Val.{SFits, toZ, ofZ}
 use mir.Facts.{toZ-ofZ}
 use Rattle.tack_extension.specs.Answers.{alertOf}
 use Rattle.pin_model.specs.Calls.{Answer, plain}
-use Rattle.tack.specs.Table.{judgementOf, outcomeOf, inspectionOf}
+use Rattle.tack.specs.Table.{judgementBy, outcomeOf, inspectionOf}
 
 pub outcome-is : (n a : ℕ) (x y : Answer) → n ≡ x .number → a ≡ alertOf n → x ≡ y → record { number = n; alert = a } ≡ outcomeOf y
 unfolding outcomeOf
 outcome-is n a x y hn ha h = let e : n ≡ y .number = hn ∙ ap (λ (z : Answer). z .number) h in rw (ha, e) refl
 
-pub judgement-is : (n a : ℕ) (full : Bool) (x y : Answer) → n ≡ x .number → a ≡ alertOf n → full ≡ x .noRoom → x ≡ y
-    → record { number = n; alert = a; «no_room» = full } ≡ judgementOf y
-unfolding judgementOf
-judgement-is n a full x y hn ha hf h =
+pub judgement-is : (alerts : ℕ → ℕ) (n a : ℕ) (full : Bool) (x y : Answer) → n ≡ x .number → a ≡ alerts n → full ≡ x .noRoom → x ≡ y
+    → record { number = n; alert = a; «no_room» = full } ≡ judgementBy alerts y
+unfolding judgementBy
+judgement-is alerts n a full x y hn ha hf h =
     let e : n ≡ y .number = hn ∙ ap (λ (z : Answer). z .number) h in
     let f : full ≡ y .noRoom = hf ∙ ap (λ (z : Answer). z .noRoom) h in
     rw (ha, e, f) refl

@@ -1,8 +1,6 @@
 -- A span cuts out the part that it speaks of. Assumes nothing.
 use mathlib.Core.Path.{_≡_, refl, sym, ap, _∙_}
-use mathlib.Core.Bool.{Bool, true, false, cond}
 use mathlib.Core.List.{List, [], _∷_, _++_}
-use mathlib.Core.Option.{Option, none, some}
 use Prim.Native.Nat.{ℕ, suc, _+_}
 use native.Mathlib.Omega.{arith}
 use lib.Dec.{eqb}
@@ -11,12 +9,12 @@ use lib.Seq.{take-append-seam, drop-append-add}
 use borrow.Author.Tests.{eqb-true}
 use Rattle.octets.specs.Octets.{part}
 use Rattle.octets.proofs.Tests.{byTest}
-use Rattle.tack_extension.specs.Extension.{Parts, parse, tackOf, breaksOf, tackPart, breaksPart}
-use Rattle.tack_extension.proofs.Steps.{byOption, Parsed, parsed}
+use Rattle.tack_extension.specs.Extension.{parse, tackPart, breaksPart}
+use Rattle.tack_extension.proofs.Steps.{byOption, parsed}
 use Rattle.tack.specs.Extension.{spanOf, breaksStart}
 use Rattle.tack.specs.declared.extension.Span.{Span}
 
-none-left : (s : List ℕ) (at : ℕ) → part s at 0 ≡ []
+pub none-left : (s : List ℕ) (at : ℕ) → part s at 0 ≡ []
 unfolding part
 none-left s at = refl
 
@@ -56,7 +54,7 @@ breaks-place s =
     (λ e. rw e (none-left s 3))
 
 -- a span of a part that lies at its start cuts out that part, also where the part is empty
-span-cuts : (s : List ℕ) (start : ℕ) (p : List ℕ) (r : Span) → r ≡ spanOf start (length p) → part s start (length p) ≡ p → part s (r .start) (r .length) ≡ p
+pub span-cuts : (s : List ℕ) (start : ℕ) (p : List ℕ) (r : Span) → r ≡ spanOf start (length p) → part s start (length p) ≡ p → part s (r .start) (r .length) ≡ p
 unfolding spanOf
 span-cuts s start p r e h =
     byTest (eqb (length p) 0)

@@ -54,7 +54,7 @@ pub extern "C" fn tack_extension_read(bytes: &[u8]) -> ReadingAnswer
 }
 
 // A span that is empty says 0 and 0.
-fn span_at(start: usize, length: usize) -> Span
+pub(crate) fn span_at(start: usize, length: usize) -> Span
     ensures { λ r. ⌜ r ≡ spanOf start length ⌝ }
 {
     if length == 0 {

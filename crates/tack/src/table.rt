@@ -95,10 +95,15 @@ pub extern "C" fn tack_delete(table: &mut [u8], name: &[u8]) -> OutcomeAnswer
 }
 
 #[no_mangle]
-pub extern "C" fn tack_inspect(table: &[u8], name: &[u8], clock: u64) -> InspectionAnswer
-    ensures { λ r. ⌜ r ≡ inspectionOf (calls.answer (calls.folded (calls.inspect (now (name .entry)) clock)) (now (table .entry))) ⌝ }
+pub extern "C" fn tack_inspect(
+    table: &[u8],
+    name: &[u8],
+    clock: u64,
+    second: bool,
+) -> InspectionAnswer
+    ensures { λ r. ⌜ r ≡ inspectionOf (calls.answer (calls.folded (calls.inspect second (now (name .entry)) clock)) (now (table .entry))) ⌝ }
 {
-    match inspection::inspect(table, name, clock) {
+    match inspection::inspect(table, name, clock, second) {
         Inspection::WithoutEnd { floor, initial } => InspectionAnswer {
             number: 5,
             alert: 0,
@@ -143,11 +148,11 @@ pub extern "C" fn tack_inspect(table: &[u8], name: &[u8], clock: u64) -> Inspect
 }
 
 #[no_mangle]
-pub extern "C" fn tack_start(table: &mut [u8]) -> OutcomeAnswer
-    ensures answer { λ r. ⌜ r ≡ outcomeOf (calls.answer calls.start (now (table .entry))) ⌝ }
-    ensures table { λ _. ⌜ now (table .exit) ≡ calls.areaAfter calls.start (now (table .entry)) ⌝ }
+pub extern "C" fn tack_start(table: &mut [u8], edition_two: bool) -> OutcomeAnswer
+    ensures answer { λ r. ⌜ r ≡ outcomeOf (calls.answer (calls.start «edition_two») (now (table .entry))) ⌝ }
+    ensures table { λ _. ⌜ now (table .exit) ≡ calls.areaAfter (calls.start «edition_two») (now (table .entry)) ⌝ }
 {
-    let number = pin_answers::starting_number(starting::start(table));
+    let number = pin_answers::starting_number(starting::start(table, edition_two));
     OutcomeAnswer {
         number,
         alert: pin_answers::alert_of(number),

@@ -1,6 +1,6 @@
 -- What the reader and the writers answer, by document 01, 'Extension bytes' and 'What each number says'. Assumes nothing.
 use Prim.Native.Nat.{ℕ}
-use mathlib.Core.Bool.{Bool, cond, _&&_}
+use mathlib.Core.Bool.{Bool, cond, _&&_, _||_}
 use mathlib.Core.List.{List, [], _∷_}
 use mathlib.Core.Option.{Option, none, some}
 use lib.ListN.{length}
@@ -23,6 +23,13 @@ alertIn (row ∷ rows) n = cond (eqb n (row .0)) (row .1) (alertIn rows n)
 
 unfoldable pub alertOf : ℕ → ℕ
 alertOf n = alertIn alerts n
+
+-- 'In this edition 16, 18-21 and 24 carry alert 42' (document 02, Q-3), bad_certificate in TLS; the others are as before
+abbrev pub badCertificate : ℕ → Bool
+badCertificate n = (eqb n 16 || (leb 18 n && leb n 21)) || eqb n 24
+
+unfoldable pub alertOfTwo : ℕ → ℕ
+alertOfTwo n = cond (badCertificate n) 42 (alertOf n)
 
 -- 'The reader answers with 9 or 16 and the activation'
 abbrev pub readingOf : Option Parts → Reading

@@ -104,12 +104,12 @@ fn deletion_of_every_spelling() {
 #[test]
 fn inspection_of_every_spelling() {
     let area = active();
-    let small = inspect(&area, b"a.b", 1700);
+    let small = inspect(&area, b"a.b", 1700, false);
     assert_eq!((small.number, small.end), (6, 2200));
     for spelling in [b"A.b", b"a.B", b"A.B"] {
-        assert_eq!(inspect(&area, spelling, 1700), small);
+        assert_eq!(inspect(&area, spelling, 1700, false), small);
     }
-    assert_eq!(inspect(&area, b"A.C", 1700).number, 4);
+    assert_eq!(inspect(&area, b"A.C", 1700, false).number, 4);
 }
 
 #[test]
@@ -161,8 +161,11 @@ fn a_mixed_list_gives_the_bytes_of_the_small_one() {
             assert_eq!(mixed.judge(&mut mixed_area), judgement);
         }
         assert!(mixed_area == small_area);
-        let inspection = inspect(&small_area, small_name, call.clock);
-        assert_eq!(inspect(&mixed_area, mixed_name, call.clock), inspection);
+        let inspection = inspect(&small_area, small_name, call.clock, false);
+        assert_eq!(
+            inspect(&mixed_area, mixed_name, call.clock, false),
+            inspection
+        );
     }
     assert!(deleted > 0);
     assert!(parse(&mixed_area).unwrap().name_records().count() > 100);
@@ -177,7 +180,7 @@ fn is_malformed(name: &[u8]) {
     let mut after = area.clone();
     assert_eq!(delete(&mut after, name).number, 12);
     assert!(after == area);
-    assert_eq!(inspect(&area, name, 1700).number, 12);
+    assert_eq!(inspect(&area, name, 1700, false).number, 12);
 }
 
 /// The bytes around the letters, and those that setting bit 5 would turn into a

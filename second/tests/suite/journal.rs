@@ -143,7 +143,7 @@ fn agree_over_a_run(mix: &Mix, calls: usize) -> usize {
             refused_room += usize::from(no_room);
         }
         journal.agrees(&parse(&area).expect("sound"));
-        let number = inspect(&area, &spelling, 0).number;
+        let number = inspect(&area, &spelling, 0, false).number;
         assert_eq!(number == 4, !journal.rows.contains_key(&name));
     }
     refused_room

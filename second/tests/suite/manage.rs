@@ -49,7 +49,7 @@ fn a_missing_name_leaves_the_table() {
     let mut after = area.clone();
     assert_eq!(delete(&mut after, b"d"), outcome(4));
     assert!(after == area);
-    assert_eq!(inspect(&area, b"d", 0), nothing_shown(4));
+    assert_eq!(inspect(&area, b"d", 0, false), nothing_shown(4));
 }
 
 #[test]
@@ -64,16 +64,16 @@ fn inspection_with_and_without_end() {
             end: 2200,
             minutes_left,
         };
-        assert_eq!(inspect(&area, b"a.b", clock), expected);
+        assert_eq!(inspect(&area, b"a.b", clock, false), expected);
     }
-    let last_clock = inspect(&area, b"a.b", 4_294_924_095);
+    let last_clock = inspect(&area, b"a.b", 4_294_924_095, false);
     assert_eq!(last_clock.minutes_left, 2200 - 4_294_924_095);
     let without_end = Inspection {
         floor: 3,
         initial: 1600,
         ..nothing_shown(5)
     };
-    assert_eq!(inspect(&area, b"c", 5000), without_end);
+    assert_eq!(inspect(&area, b"c", 5000, false), without_end);
 }
 
 #[test]
@@ -99,22 +99,22 @@ fn refusals_of_inspection_in_order() {
     let mut damaged = sound.clone();
     damaged[7] = 1;
     let late = 4_294_924_096;
-    assert_eq!(inspect(&[], b"A-", late), nothing_shown(10));
-    assert_eq!(inspect(&damaged, b"A-", late), nothing_shown(11));
-    assert_eq!(inspect(&sound, b"A-", late), nothing_shown(12));
-    assert_eq!(inspect(&sound, b"a.b", late), nothing_shown(13));
-    assert_eq!(inspect(&sound, b"d", u64::MAX), nothing_shown(13));
+    assert_eq!(inspect(&[], b"A-", late, false), nothing_shown(10));
+    assert_eq!(inspect(&damaged, b"A-", late, false), nothing_shown(11));
+    assert_eq!(inspect(&sound, b"A-", late, false), nothing_shown(12));
+    assert_eq!(inspect(&sound, b"a.b", late, false), nothing_shown(13));
+    assert_eq!(inspect(&sound, b"d", u64::MAX, false), nothing_shown(13));
 }
 
 #[test]
 fn starting_clears_whatever_was_there() {
     for mut area in [two_names(), vec![0xFF; 39_432]] {
-        assert_eq!(start(&mut area), outcome(7));
+        assert_eq!(start(&mut area, false), outcome(7));
         assert!(area == empty_area());
     }
     for length in [0, 39_431, 39_433] {
         let mut area = vec![0xFF; length];
-        assert_eq!(start(&mut area), outcome(10));
+        assert_eq!(start(&mut area, false), outcome(10));
         assert!(area.iter().all(|byte| *byte == 0xFF));
     }
 }

@@ -56,10 +56,13 @@ fn with_two_breaks(tack: &[u8]) -> Option<Vec<u8>> {
 fn lowest_number_first() {
     let sound = pinned();
     let mut damaged = sound.clone();
-    damaged[4] = 1;
+    damaged[7] = 1;
+    let mut of_edition_two = sound.clone();
+    of_edition_two[4] = 1;
     let mut call = worst_call();
     call.is_refused(&damaged[1..], 10, 0);
     call.is_refused(&damaged, 11, 0);
+    call.is_refused(&of_edition_two, 27, 0);
     call.is_refused(&sound, 12, 0);
     call.name = b"a.b".to_vec();
     call.is_refused(&sound, 13, 0);

@@ -38,8 +38,8 @@ fn is_damaged(area: &[u8], damage: Damage) {
     let mut after = area.to_vec();
     assert_eq!(delete(&mut after, b"a.b").number, 11);
     assert!(after == area);
-    assert_eq!(inspect(area, b"a.b", 5000).number, 11);
-    assert_eq!(start(&mut after).number, 7);
+    assert_eq!(inspect(area, b"a.b", 5000, false).number, 11);
+    assert_eq!(start(&mut after, false).number, 7);
 }
 
 #[test]
@@ -71,7 +71,11 @@ fn header() {
     assert!(is_sound(&changed(0, &limit.to_be_bytes())));
     let above = changed(0, &(limit + 1).to_be_bytes());
     is_damaged(&above, Damage::LatestAboveLimit);
-    for at in 4..8 {
+    for edition in 2..=255 {
+        let area = changed(4, &[edition]);
+        is_damaged(&area, Damage::EditionNeitherZeroNorOne);
+    }
+    for at in 5..8 {
         is_damaged(&changed(at, &[1]), Damage::HeaderNotZero);
     }
 }
@@ -147,7 +151,7 @@ fn a_capital_is_damage() {
     let mut area = changed(FIRST_NAME + 16, b"A.B");
     is_damaged(&area, malformed);
     Call::at(5000, "A.B").is_refused(&area, 11, 0);
-    assert_eq!(inspect(&area, b"A.B", 5000).number, 11);
+    assert_eq!(inspect(&area, b"A.B", 5000, false).number, 11);
     assert_eq!(delete(&mut area, b"A.B").number, 11);
 
     // The other spelling of a recorded name is no second record of it either.

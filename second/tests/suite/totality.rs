@@ -1,9 +1,10 @@
 //! Any bytes of any length get an answer, and a refusal changes nothing.
 
 use second::extension::{breaks_span, read, signed_bytes, tack_span, write};
-use second::{delete, inspect, is_sound, is_well_formed, start};
+use second::{delete, extension_two, inspect, is_sound, is_well_formed, start};
 
 use crate::calls::*;
+use crate::calls_two::{showing_two, CallTwo};
 use crate::capitals::{any_spelling, respelled};
 use crate::journal::Random;
 
@@ -43,6 +44,34 @@ fn extensions_and_names() {
 }
 
 #[test]
+fn extensions_of_edition_two() {
+    let mut random = Random(79);
+    let mut written = 0;
+    for _ in 0..3000 {
+        let any = bytes(&mut random, 400);
+        let reading = extension_two::read(&any);
+        assert!(reading.number == 9 || reading.number == 16);
+        assert_eq!(extension_two::parse(&any).is_some(), reading.number == 9);
+        for second in [false, true] {
+            let span = extension_two::tack_span(&any, second);
+            assert!(span.start + span.length <= any.len());
+        }
+        let length = [166, 332, any.len()][random.below(3) as usize];
+        let tacks = vec![7; length];
+        let mut out = bytes(&mut random, 600);
+        let before = out.clone();
+        let writing = extension_two::write(&tacks, random.below(5) as u8, &mut out);
+        assert_eq!(out[writing.written..], before[writing.written..]);
+        if writing.number == 9 {
+            let reading = extension_two::read(&out[..writing.written]);
+            assert_eq!(reading.number, 9);
+            written += 1;
+        }
+    }
+    assert!(written > 0);
+}
+
+#[test]
 fn areas_with_a_few_changed_bytes() {
     let mut random = Random(78);
     let mut base = empty_area();
@@ -50,8 +79,9 @@ fn areas_with_a_few_changed_bytes() {
         let call = Call::at(1000, &format!("host{number}"));
         call.with(showing(key(number % 4))).judge(&mut base);
     }
-    for _ in 0..400 {
+    for round in 0..400 {
         let mut area = base.clone();
+        area[4] = (round % 2) as u8;
         for _ in 0..random.below(3) {
             let at = random.below(2 * 5000) as usize;
             area[at] = random.below(256) as u8;
@@ -71,15 +101,15 @@ fn answers_are_consistent(random: &mut Random, area: &[u8]) {
     if random.below(2) == 0 {
         call = call.with(showing(key(random.below(6) as u8)));
     }
+    let mut call_two = CallTwo::at(clock, &name);
+    if random.below(2) == 0 {
+        let keys = [0, 1].map(|_| key(random.below(6) as u8));
+        call_two = call_two.with(showing_two(&keys, random.below(4) as u8));
+    }
     let sound = is_sound(area);
-    let mut after = area.to_vec();
-    let number = call.number(&mut after);
-    assert_eq!(number >= 12 || number <= 2, sound);
-    assert!(if number <= 2 {
-        is_sound(&after)
-    } else {
-        after == area
-    });
+    let edition = area.get(4);
+    is_judged(area, edition == Some(&0), |area| call.number(area));
+    is_judged(area, edition == Some(&1), |area| call_two.number(area));
 
     let mut after = area.to_vec();
     let number = delete(&mut after, &spelling).number;
@@ -90,7 +120,24 @@ fn answers_are_consistent(random: &mut Random, area: &[u8]) {
         after == area
     });
 
-    inspect(area, &spelling, clock);
+    for yes in [false, true] {
+        inspect(area, &spelling, clock, yes);
+        let mut after = area.to_vec();
+        let started = start(&mut after, yes).number == 7;
+        assert_eq!(started, area.len() == 39_432);
+    }
+}
+
+/// By the judge of an edition, which may be the one of the area or not.
+fn is_judged(area: &[u8], same_edition: bool, judge: impl Fn(&mut [u8]) -> u8) {
     let mut after = area.to_vec();
-    assert_eq!(start(&mut after).number == 7, area.len() == 39_432);
+    let number = judge(&mut after);
+    let sound = is_sound(area);
+    assert_eq!(number >= 12 || number <= 2, sound);
+    assert_eq!(number == 27, sound && !same_edition);
+    assert!(if number <= 2 {
+        is_sound(&after)
+    } else {
+        after == area
+    });
 }

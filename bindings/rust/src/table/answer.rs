@@ -5,9 +5,9 @@
 pub enum Verdict {
     /// 0: the name has no active pin.
     Unpinned,
-    /// 1: the server showed the tack of the name's active pin.
+    /// 1: the name has an active pin, in edition two perhaps a second, and the server showed the key of each.
     Confirmed,
-    /// 2: the name has an active pin, and the server did not show its key.
+    /// 2: the name has an active pin whose key the server did not show.
     Contradicted,
 }
 
@@ -31,15 +31,15 @@ impl Verdict {
 pub struct Judgement {
     /// What the table says of the connection.
     pub verdict: Verdict,
-    /// A pin was due and the table had no slot for its name or its key. Nothing was pinned, and the verdict stands all the
-    /// same: a full table refuses no connection.
+    /// A pin was due and the table had no slot for its name or its key. It was not made, and the verdict stands all the same:
+    /// a full table refuses no connection.
     pub no_room: bool,
 }
 
 /// Whether a deletion found its name.
 #[derive(Debug, Clone, Copy, PartialEq, Eq, Hash)]
 pub enum Deletion {
-    /// 3: the name's record is gone, and so is its key if no name is left on it.
+    /// 3: the name's record is gone, in edition two both are, and so is each key if no name is left on it.
     Deleted,
     /// 4: the name had no record.
     NotRecorded,

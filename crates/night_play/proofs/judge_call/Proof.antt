@@ -9,7 +9,6 @@ use Rattle.night_play.proofs.OneTurn.{call-read, part-between}
 use borrow.Author.Needs.{needs}
 use Rattle.night_play.proofs.judge_call.Statement.{statement}
 use Rattle.night_play.proofs.judge_call.Tie as tie
-use Rattle.octets.proofs.u32_at.Reads as u32-at-reads
 
 add-hash-at : tie.Need-add-hash-at
 add-hash-at c = search needs

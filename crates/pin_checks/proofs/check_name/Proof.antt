@@ -1,5 +1,5 @@
 -- The area's refusals come before the name's. Assumes nothing.
-use mathlib.Core.Path.{_≡_, sym, ap, _∙_}
+use mathlib.Core.Path.{sym, ap, _∙_}
 use borrow.Author.Needs.{needs}
 use Rattle.pin_answers.specs.Numbers.{checkedNumber}
 use Rattle.pin_checks.proofs.Passed.{named-refused, named-passes, named-malformed}

@@ -2,7 +2,7 @@
 use borrow.Author.Needs.{needs}
 use Rattle.pin_model.specs.Layout.{decode}
 use Rattle.pin_records.proofs.HeldSlots.{holds-stored}
-use Rattle.pin_judge.proofs.Steps.{applied}
+use Rattle.pin_judge.proofs.Steps.{still-one, applied}
 use Rattle.pin_judge.proofs.apply.Statement.{statement}
 use Rattle.pin_judge.proofs.apply.Tie as tie
 
@@ -16,7 +16,14 @@ store-latest-requires : tie.Need-store-latest-requires
 store-latest-requires c κs = holds-stored (c .before .before .before .break-keys .ensures)
 
 verdict-for-requires : tie.Need-verdict-for-requires
-verdict-for-requires c κs = (holds-stored (c .before .before .before .store-latest .ensures), c .before .before .before .before .before .before .before .before .before .before .before .before .before .before .before .before .before .pre .1)
+verdict-for-requires c κs =
+    let s = c .before .before .before .before .before .before .before .before .before .before .before .before .before .before .before .before .before in
+    let a = s .args in (
+      holds-stored (c .before .before .before .store-latest .ensures),
+      s .pre .1,
+      still-one (a .enabled) (a .name .now) (a .clock .0) (a .tack .now) (a .broken .now) (decode (a .area .now))
+          (c .before .before .before .before .before .before .before .before .before .before .before .learn .ensures) (c .before .before .before .before .before .before .before .break-keys .ensures) (c .before .before .before .store-latest .ensures) (s .pre .0 .admitted .ofOne),
+    )
 
 same-length : tie.Need-same-length
 same-length c = search needs

@@ -1,5 +1,5 @@
 -- The area's refusals; on a sound area the rest. Assumes nothing.
-use mathlib.Core.Path.{_≡_, sym, ap, _∙_}
+use mathlib.Core.Path.{sym, ap, _∙_}
 use mathlib.Core.List.{[]}
 use borrow.Author.Needs.{needs}
 use Rattle.pin_answers.specs.Numbers.{checkedNumber}

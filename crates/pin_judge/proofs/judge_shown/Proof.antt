@@ -15,8 +15,8 @@ returns : tie.Need-returns
 returns c =
     let s = c .before .before .before .before .before .before in
     let a = s .args in
-    refused-named (a .clock) (a .name .now) (a .extension .now) (a .hash .now) (a .handshake-finished) (a .key-is-point) (a .signature-correct) (a .breaks-correct) (a .area .now) 12
-    (named-malformed (a .area .now) (a .name .now) (area-passes (a .area .now) (s .pre)) (sym (c .before .well-formed .ensures) ∙ not-true _ (c .if1 .taken)))
+    refused-named (a .clock) (a .name .now) (a .extension .now) (a .hash .now) (a .handshake-finished) (a .key-is-point) (a .signature-correct) (a .breaks-correct) (a .area .now) (s .pre .1) 12
+    (named-malformed (a .area .now) (a .name .now) (area-passes (a .area .now) (s .pre .0)) (sym (c .before .well-formed .ensures) ∙ not-true _ (c .if1 .taken)))
 
 of-clock-requires : tie.Need-of-clock-requires
 of-clock-requires c κs = search needs
@@ -32,15 +32,15 @@ returns-2 c =
     let s = c .before .before .before .before .before .before .before .before .before in
     let a = s .args in
     let formed = sym (c .before .before .before .before .well-formed .ensures) ∙ not-false _ (c .before .before .before .if1 .left) in
-    refused-late (a .clock) (a .name .now) (a .extension .now) (a .hash .now) (a .handshake-finished) (a .key-is-point) (a .signature-correct) (a .breaks-correct) (a .area .now) (named-passes (a .area .now) (a .name .now) (area-passes (a .area .now) (s .pre)) formed)
+    refused-late (a .clock) (a .name .now) (a .extension .now) (a .hash .now) (a .handshake-finished) (a .key-is-point) (a .signature-correct) (a .breaks-correct) (a .area .now) (s .pre .1) (named-passes (a .area .now) (a .name .now) (area-passes (a .area .now) (s .pre .0)) formed)
     (above _ (sym (c .enum-told .given .1) ∙ c .before .before .of-clock .ensures))
 
 judge-at-requires : tie.Need-judge-at-requires
 judge-at-requires c κs =
     let s = c .before .before .before .before .before .before .before .before .before .before .before in
     let inTime = within _ _ (sym (c .before .before .now .given .1) ∙ c .before .before .before .before .of-clock .ensures) in (
-      s .pre,
-      sound-admitted (s .args .area .now) (s .args .name .now) _ (λ i. c .before .before .before .before .before .before .before .before .before .before .slice-known .given i .fits) (s .pre)
+      s .pre .0,
+      sound-admitted (s .args .area .now) (s .args .name .now) _ (λ i. c .before .before .before .before .before .before .before .before .before .before .slice-known .given i .fits) (s .pre .0) (s .pre .1)
           (sym (c .before .before .before .before .before .before .well-formed .ensures) ∙ not-false _ (c .before .before .before .before .before .if1 .left)) (inTime .inLimit),
     )
 

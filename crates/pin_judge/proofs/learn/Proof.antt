@@ -2,6 +2,7 @@
 use mathlib.Core.Path.{sym, ap, _∙_}
 use mathlib.Core.Bool.{true, false}
 use borrow.Author.Needs.{needs}
+use Rattle.pin_model.specs.Table.{Table}
 use Rattle.pin_model.specs.Layout.{decode}
 use Rattle.pin_model.specs.Judge.{raise}
 use Rattle.pin_steps.specs.Steps.{extendBy}
@@ -32,6 +33,7 @@ extend-pin-requires c κs =
       tack-length _ (s .pre .1) (c .before .before .before .before .before .before .if1 .left),
       s .pre .0 .admitted .clockInLimit,
       raised-begun (s .args .tack .now) _ (holds-decode raised) (s .pre .0),
+      ap (λ (t : Table). t .two) (holds-decode raised) ∙ s .pre .0 .admitted .ofOne,
     )
 
 create-record-requires : tie.Need-create-record-requires
@@ -39,11 +41,13 @@ create-record-requires c κs =
     let s = c .before .before .before .before .before .before .before .before .before .before .before .before .before .before in
     let a = s .args in
     let k = s .pre .0 in
-    let its = holds-decode (c .before .before .before .extend-pin .ensures) ∙ ap (extendBy true (a .name .now) (a .tack .now) (a .clock .0)) (holds-decode (c .before .before .before .before .before .before .before .before .raise-floor .ensures)) in (
+    let its = holds-decode (c .before .before .before .extend-pin .ensures) ∙ ap (extendBy true (a .name .now) (a .tack .now) (a .clock .0)) (holds-decode (c .before .before .before .before .before .before .before .before .raise-floor .ensures)) in
+    let ready = ready-to-create true (a .name .now) (a .clock .0) (a .tack .now) (decode (a .area .now)) _ its (k .admitted .tableSound) (k .admitted .ofOne) (k .clockInOrder) (k .admitted .clockInLimit) in (
       holds-stored (c .before .before .before .extend-pin .ensures),
       tack-length _ (s .pre .1) (c .before .before .before .before .before .before .before .before .before .before .if1 .left),
       k .admitted .nameFormed,
-      ready-to-create true (a .name .now) (a .clock .0) (a .tack .now) (decode (a .area .now)) _ its (k .admitted .tableSound) (k .clockInOrder) (k .admitted .clockInLimit),
+      ready .0,
+      ready .1,
     )
 
 same-length : tie.Need-same-length
@@ -62,11 +66,13 @@ create-record-requires-2 c κs =
     let a = s .args in
     let k = s .pre .0 in
     let raised = c .before .before .before .before .raise-floor .ensures in
-    let its = holds-decode raised ∙ sym (not-extended (a .name .now) (a .tack .now) (a .clock .0) (raise (a .tack .now) (decode (a .area .now)))) in (
+    let its = holds-decode raised ∙ sym (not-extended (a .name .now) (a .tack .now) (a .clock .0) (raise (a .tack .now) (decode (a .area .now)))) in
+    let ready = ready-to-create false (a .name .now) (a .clock .0) (a .tack .now) (decode (a .area .now)) _ its (k .admitted .tableSound) (k .admitted .ofOne) (k .clockInOrder) (k .admitted .clockInLimit) in (
       holds-stored raised,
       tack-length _ (s .pre .1) (c .before .before .before .before .before .before .if1 .left),
       k .admitted .nameFormed,
-      ready-to-create false (a .name .now) (a .clock .0) (a .tack .now) (decode (a .area .now)) _ its (k .admitted .tableSound) (k .clockInOrder) (k .admitted .clockInLimit),
+      ready .0,
+      ready .1,
     )
 
 same-length-2 : tie.Need-same-length-2

@@ -1,10 +1,13 @@
 -- Each answer, and the area that goes with it.
 use mathlib.Core.Path.{sym, ap, _∙_}
 use borrow.Author.Needs.{needs}
+use Rattle.pin_model.specs.Table.{nameIs}
+use Rattle.pin_model.specs.Layout.{decode}
 use Rattle.pin_model.specs.Calls.{refusal, delete}
 use Rattle.pin_answers.specs.Numbers.{checkedNumber}
+use Rattle.pin_records.specs.Find.{holds, firstSlot}
 use Rattle.pin_records.proofs.HeldSlots.{holds-stored}
-use Rattle.pin_records.proofs.Found.{name-found-at}
+use Rattle.pin_records.proofs.Found.{name-there, name-found-at, name-absent}
 use Rattle.pin_checks.proofs.Passed.{call-refused, ready-named}
 use Rattle.pin_manage.proofs.Deleted.{delete-nothing, delete-found}
 use Rattle.pin_manage.proofs.deletion.delete_folded.Statement.{statement}
@@ -22,19 +25,20 @@ same-length c = search needs
 returns : tie.Need-returns
 unfolding refusal
 returns c =
-    call-refused (delete (c .before .before .before .before .before .before .before .args .name .now)) (c .before .before .before .before .before .before .before .args .area .now) _
-    (sym (c .before .before .before .check-name .ensures) ∙ ap checkedNumber (c .before .refusal .given .1))
+    let a = c .before .before .before .before .before .before .before .args in
+    call-refused (delete (a .name .now)) (a .area .now) _ (sym (c .before .before .before .check-name .ensures) ∙ ap checkedNumber (c .before .refusal .given .1))
 
 enum-told : tie.Need-enum-told
 enum-told c = search needs
 
 find-name-requires : tie.Need-find-name-requires
 find-name-requires c κs =
-    ready-named (c .before .before .before .before .before .before .before .args .area .now) (c .before .before .before .before .before .before .before .args .name .now) (λ i. c .before .before .before .before .before .before .slice-known .given i .fits)
-    (sym (c .before .before .before .check-name .ensures) ∙ ap checkedNumber (c .before .enum-told .given .1)) .stored
+    let p = c .before in
+    let a = p .before .before .before .before .before .before .args in
+    ready-named (a .area .now) (a .name .now) (λ i. p .before .before .before .before .before .slice-known .given i .fits) (sym (p .before .before .check-name .ensures) ∙ ap checkedNumber (p .enum-told .given .1)) .stored
 
-enum-known-n : tie.Need-enum-known-n
-enum-known-n c = search needs
+enum-known-first : tie.Need-enum-known-first
+enum-known-first c = search needs
 
 enum-told-2 : tie.Need-enum-told-2
 enum-told-2 c = search needs
@@ -45,17 +49,22 @@ same-length-2 c = search needs
 returns-2 : tie.Need-returns-2
 unfolding refusal
 returns-2 c =
-    let passed = sym (c .before .before .before .before .before .before .check-name .ensures) ∙ ap checkedNumber (c .before .before .before .before .enum-told .given .1) in
-    let w = ready-named (c .before .before .before .before .before .before .before .before .before .before .args .area .now) (c .before .before .before .before .before .before .before .before .before .before .args .name .now) (λ i. c .before .before .before .before .before .before .before .before .before .slice-known .given i .fits) passed in
-    delete-nothing (c .before .before .before .before .before .before .before .before .before .before .args .area .now) (c .before .before .before .before .before .before .before .before .before .before .args .name .now) (w .stored) passed (sym (c .enum-told2 .given .1) ∙ c .before .before .find-name .ensures)
+    let p = c .before .before .before .before in
+    let a = p .before .before .before .before .before .before .args in
+    let passed = sym (p .before .before .check-name .ensures) ∙ ap checkedNumber (p .enum-told .given .1) in
+    let w = ready-named (a .area .now) (a .name .now) (λ i. p .before .before .before .before .before .slice-known .given i .fits) passed in
+    delete-nothing (a .area .now) (a .name .now) passed (w .stored)
+    (name-absent (decode (a .area .now) .names) (w .stored .fits .nameSlots) (a .name .now) (sym (c .enum-told2 .given .1) ∙ c .before .before .find-name .ensures))
 
-clear-name-requires : tie.Need-clear-name-requires
-clear-name-requires c κs =
-    let w = ready-named (c .before .before .before .before .before .before .before .before .before .before .before .before .args .area .now) (c .before .before .before .before .before .before .before .before .before .before .before .before .args .name .now) (λ i. c .before .before .before .before .before .before .before .before .before .before .before .slice-known .given i .fits) (sym (c .before .before .before .before .before .before .before .before .check-name .ensures) ∙ ap checkedNumber (c .before .before .before .before .before .before .enum-told .given .1)) in
-    (w .stored, name-found-at _ (w .stored .fits .nameSlots) _ _ (sym (c .before .before .n .given .1) ∙ c .before .before .before .before .find-name .ensures) .below)
+drop-records-requires : tie.Need-drop-records-requires
+drop-records-requires c κs =
+    let p = c .before .before .before .before .before .before in
+    let a = p .before .before .before .before .before .before .args in
+    let w = ready-named (a .area .now) (a .name .now) (λ i. p .before .before .before .before .before .slice-known .given i .fits) (sym (p .before .before .check-name .ensures) ∙ ap checkedNumber (p .enum-told .given .1)) in
+    (w .stored, name-there (firstSlot (holds (nameIs (a .name .now))) (decode (a .area .now) .names)) _ (sym (c .before .before .first .given .1) ∙ c .before .before .before .before .find-name .ensures) .1)
 
 drop-unnamed-requires : tie.Need-drop-unnamed-requires
-drop-unnamed-requires c κs = holds-stored (c .before .before .before .clear-name .ensures)
+drop-unnamed-requires c κs = holds-stored (c .before .before .before .drop-records .ensures)
 
 same-length-3 : tie.Need-same-length-3
 same-length-3 c = search needs
@@ -63,9 +72,13 @@ same-length-3 c = search needs
 returns-3 : tie.Need-returns-3
 unfolding refusal
 returns-3 c =
-    let passed = sym (c .before .before .before .before .before .before .before .before .before .before .before .before .before .before .before .check-name .ensures) ∙ ap checkedNumber (c .before .before .before .before .before .before .before .before .before .before .before .before .before .enum-told .given .1) in
-    let w = ready-named (c .before .before .before .before .before .before .before .before .before .before .before .before .before .before .before .before .before .before .before .args .area .now) (c .before .before .before .before .before .before .before .before .before .before .before .before .before .before .before .before .before .before .before .args .name .now) (λ i. c .before .before .before .before .before .before .before .before .before .before .before .before .before .before .before .before .before .before .slice-known .given i .fits) passed in
-    delete-found (c .before .before .before .before .before .before .before .before .before .before .before .before .before .before .before .before .before .before .before .args .area .now) (c .before .before .before .before .before .before .before .before .before .before .before .before .before .before .before .before .before .before .before .args .name .now) (w .stored) passed _ (sym (c .before .before .before .before .before .before .before .before .before .n .given .1) ∙ c .before .before .before .before .before .before .before .before .before .before .before .find-name .ensures) _ _ (c .before .before .before .before .before .before .clear-name .ensures) (c .before .before .drop-unnamed .ensures)
+    let f = c .before .before .before .before .before .before .before .before .before in
+    let p = f .before .before .before .before in
+    let a = p .before .before .before .before .before .before .args in
+    let passed = sym (p .before .before .check-name .ensures) ∙ ap checkedNumber (p .enum-told .given .1) in
+    let w = ready-named (a .area .now) (a .name .now) (λ i. p .before .before .before .before .before .slice-known .given i .fits) passed in
+    let found = name-found-at (decode (a .area .now) .names) (w .stored .fits .nameSlots) (a .name .now) _ (sym (f .first .given .1) ∙ f .before .before .find-name .ensures) in
+    delete-found (a .area .now) (a .name .now) passed (found .recorded) _ _ (c .before .before .before .before .before .before .drop-records .ensures) (c .before .before .drop-unnamed .ensures)
 
 pub delete-folded-spec : {M : Type 1} → statement M
 delete-folded-spec =
@@ -77,11 +90,11 @@ delete-folded-spec =
     returns
     enum-told
     find-name-requires
-    enum-known-n
+    enum-known-first
     enum-told-2
     same-length-2
     returns-2
-    clear-name-requires
+    drop-records-requires
     drop-unnamed-requires
     same-length-3
     returns-3)

@@ -33,8 +33,8 @@ returns c =
     let a = c .before .before .before .before .before .before .before .args in
     let its = front (a .name .now) (c .before .before .before .fold .ensures) in
     c .inspect-folded .ensures
-    ∙ ap (λ (name : List ℕ). answer (inspect name (a .clock)) (a .area .now)) its
-    ∙ cut-inspect (a .clock) (foldedName (a .name .now)) (a .area .now) .0
+    ∙ ap (λ (name : List ℕ). answer (inspect (a .second) name (a .clock)) (a .area .now)) its
+    ∙ cut-inspect (a .second) (a .clock) (foldedName (a .name .now)) (a .area .now) .0
 
 pub inspect-spec : {M : Type 1} → statement M
 inspect-spec =

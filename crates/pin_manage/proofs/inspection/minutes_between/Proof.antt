@@ -1,8 +1,8 @@
 -- Both numbers have 32 bits, so that their difference fits.
-use mathlib.Core.Path.{_≡_, ap₂, _∙_}
+use mathlib.Core.Path.{ap₂, _∙_}
 use Prim.Native.Nat.{ℕ}
 use native.Mathlib.Omega.{arith}
-use lib.IntN.{ℤ, pos, _-ℤ_}
+use lib.IntN.{pos, _-ℤ_}
 use borrow.Author.Needs.{needs}
 use Rattle.pin_manage.proofs.Differences.{difference-fits, difference-is}
 use Rattle.pin_manage.proofs.inspection.minutes_between.Statement.{statement}

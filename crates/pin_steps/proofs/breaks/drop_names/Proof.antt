@@ -7,12 +7,13 @@ use borrow.Author.Needs.{needs}
 use Rattle.pin_model.specs.Layout.{decode}
 use Rattle.pin_records.specs.Holds.{Holds}
 use Rattle.pin_records.proofs.HeldSlots.{holds-stored}
-use Rattle.pin_steps.proofs.DroppedNames.{dropped, drop-used, drop-stays, drop-goes, drop-end}
+use Rattle.pin_records.proofs.DroppedNames.{dropped, drop-end}
+use Rattle.pin_steps.proofs.DroppedNames.{onKey, key-used, name-stays, name-goes}
 use Rattle.pin_steps.proofs.breaks.drop_names.Statement.{statement}
 use Rattle.pin_steps.proofs.breaks.drop_names.Tie as tie
 
 abbrev Inv-loop : tie.InvT-loop
-Inv-loop area₀ k n₀ area n = (n ≤ 128) × Holds area (dropped (decode area₀) (k .0) n)
+Inv-loop area₀ k n₀ area n = (n ≤ 128) × Holds area (dropped (onKey (decode area₀ .keys) (k .0)) (decode area₀) n)
 
 abbrev μ-loop : tie.MeasureT-loop
 μ-loop area₀ k n₀ area n = 128 - n
@@ -27,7 +28,7 @@ refers-to-requires c κs =
       holds-stored (l .inv .1),
       c .before .loop-test .taken,
       s .pre .1,
-      drop-used (decode (s .args .area .now)) (s .args .k .0) (l .n) (l .inv .1) (s .pre .2),
+      key-used (decode (s .args .area .now)) (s .args .k .0) (l .n) (l .inv .1) (s .pre .2),
     )
 
 clear-name-requires : tie.Need-clear-name-requires Inv-loop μ-loop
@@ -44,8 +45,8 @@ loop-again c =
     let s = c .before .before .before .before .before .before in
     let l = c .before .before .before .before .loop in
     ⊎-elim
-    (λ w. (omega arith, drop-goes (decode (s .args .area .now)) (s .args .k .0) (l .n) (l .inv .1) (w .5) (sym (c .before .refers-to .ensures) ∙ w .0 .taken) (w .2 .ensures)))
-    (λ w. (omega arith, drop-stays (decode (s .args .area .now)) (s .args .k .0) (l .n) (l .inv .1) (w .1) (sym (c .before .refers-to .ensures) ∙ w .0 .left)))
+    (λ w. (omega arith, name-goes (decode (s .args .area .now)) (s .args .k .0) (l .n) (l .inv .1) (w .5) (sym (c .before .refers-to .ensures) ∙ w .0 .taken) (w .2 .ensures)))
+    (λ w. (omega arith, name-stays (decode (s .args .area .now)) (s .args .k .0) (l .n) (l .inv .1) (w .1) (sym (c .before .refers-to .ensures) ∙ w .0 .left)))
     (c .if1 .came)
 
 same-length : tie.Need-same-length Inv-loop μ-loop
@@ -55,7 +56,7 @@ returns : tie.Need-returns Inv-loop μ-loop
 returns c =
     let s = c .before .before .before in
     let l = c .before .loop in
-    drop-end (decode (s .args .area .now)) (s .args .k .0) (l .n) (l .inv .1) (s .pre .0 .fits .nameSlots) (c .loop-test .left)
+    drop-end (onKey (decode (s .args .area .now) .keys) (s .args .k .0)) (decode (s .args .area .now)) (l .n) (l .inv .1) (s .pre .0 .fits .nameSlots) (c .loop-test .left)
 
 pub drop-names-spec : {M : Type 1} → statement M
 drop-names-spec =

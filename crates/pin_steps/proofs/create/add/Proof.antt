@@ -2,9 +2,10 @@
 use mathlib.Core.Path.{sym, _∙_}
 use denote.Ref.{now}
 use borrow.Author.Needs.{needs}
+use Rattle.tack_extension.specs.Tack.{publicKey}
 use Rattle.pin_model.specs.Layout.{decode}
 use Rattle.pin_records.proofs.Found.{name-free-at, names-full}
-use Rattle.pin_steps.proofs.Creation.{add-refused, add-room, added}
+use Rattle.pin_steps.proofs.Creation.{unrecorded-fresh, add-refused, add-room, added}
 use Rattle.pin_steps.proofs.create.add.Statement.{statement}
 use Rattle.pin_steps.proofs.create.add.Tie as tie
 
@@ -28,12 +29,13 @@ returns c =
 
 store-new-requires : tie.Need-store-new-requires
 store-new-requires c κs =
-    let s = c .before .before .before .before .before .before .before .before .before in (
+    let s = c .before .before .before .before .before .before .before .before .before in
+    let f = name-free-at _ (s .pre .0 .fits .nameSlots) _ (sym (c .before .before .n .given .1) ∙ c .before .before .before .before .free-name .ensures) in (
       s .pre .0,
-      name-free-at _ (s .pre .0 .fits .nameSlots) _ (sym (c .before .before .n .given .1) ∙ c .before .before .before .before .free-name .ensures) .below,
+      f .below,
       s .pre .1,
       s .pre .2,
-      s .pre .4,
+      unrecorded-fresh (now (s .args .name)) (publicKey (now (s .args .tack))) (s .pre .0) _ (f .below) (s .pre .4),
       add-room (now (s .args .name)) (now (s .args .tack)) (s .args .clock .0) (decode (now (s .args .area))) (s .pre .3) (s .pre .5) (s .pre .4),
     )
 

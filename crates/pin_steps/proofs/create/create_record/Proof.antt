@@ -77,6 +77,7 @@ replace-requires c κs =
       holds-name (now (s .args .name)) _ _ x,
       sym (i .before .before .before .before .wants-record .ensures) ∙ not-false _ (i .before .before .before .if1 .left),
       sym (i .before .has-room .ensures) ∙ not-false _ (i .if2 .left),
+      s .pre .4,
     )
 
 same-length-4 : tie.Need-same-length-4

@@ -66,7 +66,7 @@ returns-4 c =
     c .last-on-key .ensures
     ∙ room-last (now (s .args .name)) (now (s .args .tack)) (s .args .clock .0) (decode (now (s .args .area))) (s .pre .2)
     (name-found-at _ (s .pre .0 .fits .nameSlots) (now (s .args .name)) _ (sym (c .before .before .before .before .n .given .1) ∙ c .before .before .before .before .before .before .find-name .ensures))
-    (sym (c .before .before .key-fits2 .ensures) ∙ c .before .if1 .left)
+    (s .pre .3) (sym (c .before .before .key-fits2 .ensures) ∙ c .before .if1 .left)
 
 pub has-room-spec : {M : Type 1} → statement M
 has-room-spec =

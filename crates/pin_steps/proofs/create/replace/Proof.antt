@@ -1,9 +1,10 @@
 -- After the removal the area holds the table without the name, and there is room for the key.
 use denote.Ref.{now}
 use borrow.Author.Needs.{needs}
+use Rattle.tack_extension.specs.Tack.{publicKey}
 use Rattle.pin_model.specs.Layout.{decode}
 use Rattle.pin_records.proofs.HeldSlots.{holds-stored}
-use Rattle.pin_steps.proofs.Creation.{name-held, removed, removed-name, removed-room, replaced}
+use Rattle.pin_steps.proofs.Creation.{name-held, unrecorded-fresh, removed, removed-name, removed-room, replaced}
 use Rattle.pin_steps.proofs.create.replace.Statement.{statement}
 use Rattle.pin_steps.proofs.create.replace.Tie as tie
 
@@ -22,13 +23,14 @@ store-new-requires c κs =
     let clock = s .args .clock .0 in
     let t = decode (now (s .args .area)) in
     let x = name-held name (t .names) (s .args .n .0) (s .pre .1) (s .pre .5) in
-    let g = removed name tack clock t (s .pre .4) (s .pre .7) x (s .pre .6) (a .clear-name .ensures) (c .before .before .before .drop-unnamed .ensures) in (
+    let g = removed name tack clock t (s .pre .4) (s .pre .7) (s .pre .8) x (s .pre .6) (a .clear-name .ensures) (c .before .before .before .drop-unnamed .ensures) in (
       holds-stored g,
       s .pre .1,
       s .pre .2,
       s .pre .3,
-      removed-name name tack clock t (s .pre .4) (s .pre .7) x (s .pre .6) g,
-      removed-room name tack clock t (s .pre .4) (s .pre .7) x (s .pre .6) g,
+      unrecorded-fresh name (publicKey tack) (holds-stored g) (s .args .n .0) (s .pre .1)
+          (removed-name name tack clock t (s .pre .4) (s .pre .7) (s .pre .8) x (s .pre .6) g),
+      removed-room name tack clock t (s .pre .4) (s .pre .7) (s .pre .8) x (s .pre .6) g,
     )
 
 same-length : tie.Need-same-length
@@ -43,8 +45,8 @@ returns c =
     let clock = s .args .clock .0 in
     let t = decode (now (s .args .area)) in
     let x = name-held name (t .names) (s .args .n .0) (s .pre .1) (s .pre .5) in
-    let g = removed name tack clock t (s .pre .4) (s .pre .7) x (s .pre .6) (a .clear-name .ensures) (c .before .before .before .before .before .before .drop-unnamed .ensures) in
-    replaced name tack clock t (s .pre .4) (s .pre .7) x (s .pre .6) g (c .before .before .store-new .ensures)
+    let g = removed name tack clock t (s .pre .4) (s .pre .7) (s .pre .8) x (s .pre .6) (a .clear-name .ensures) (c .before .before .before .before .before .before .drop-unnamed .ensures) in
+    replaced name tack clock t (s .pre .4) (s .pre .7) (s .pre .8) x (s .pre .6) g (c .before .before .store-new .ensures)
 
 pub replace-spec : {M : Type 1} → statement M
 replace-spec =

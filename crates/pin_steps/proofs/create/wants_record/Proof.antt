@@ -42,7 +42,7 @@ returns-2 : tie.Need-returns-2
 returns-2 c =
     let s = c .before .before .before .before .before .before .before .before .before .before .before in
     let x = name-found-at _ (s .pre .0 .fits .nameSlots) (now (s .args .name)) _ (sym (c .before .before .before .before .before .n .given .1) ∙ c .before .before .before .before .before .before .before .find-name .ensures) in
-    wanted-own (now (s .args .name)) (now (s .args .tack)) (s .args .clock .0) (s .pre .0) x
+    wanted-own (now (s .args .name)) (now (s .args .tack)) (s .args .clock .0) (s .pre .0) (s .pre .2) x
     (c .before .before .before .key-of .ensures .1) (c .before .before .public-key .ensures) (sym (c .before .holds-key .ensures) ∙ c .if1 .taken)
 
 is-active-requires : tie.Need-is-active-requires
@@ -55,7 +55,7 @@ returns-3 c =
     let s = c .before .before .before .before .before .before .before .before .before .before .before .before in
     let x = name-found-at _ (s .pre .0 .fits .nameSlots) (now (s .args .name)) _ (sym (c .before .before .before .before .before .before .n .given .1) ∙ c .before .before .before .before .before .before .before .before .find-name .ensures) in
     ap not (c .is-active .ensures)
-    ∙ wanted-other (now (s .args .name)) (now (s .args .tack)) (s .args .clock .0) (s .pre .0) x
+    ∙ wanted-other (now (s .args .name)) (now (s .args .tack)) (s .args .clock .0) (s .pre .0) (s .pre .2) x
     (c .before .before .before .before .key-of .ensures .1) (c .before .before .before .public-key .ensures) (sym (c .before .before .holds-key .ensures) ∙ c .before .if1 .left)
 
 pub wants-record-spec : {M : Type 1} → statement M

@@ -49,40 +49,25 @@ returns-2 c =
     let s = c .before .before .before .before .before .before .before .before .before .before .before .before .before in
     let x = name-found-at _ (s .pre .0 .fits .nameSlots) _ _ (sym (c .before .before .before .before .before .before .n .given .1) ∙ c .before .before .before .before .before .before .before .before .find-name .ensures) in
     let t = pinned-test (s .pre .0) _ (x .what) (x .there) (s .args .tack .now) (c .before .before .public-key .ensures) (c .before .before .before .key-of .ensures .1) (c .before .holds-key .ensures) in
-    extend-other (s .args .name .now) (s .args .tack .now) (s .args .clock .0) (s .pre .0) x (sym t ∙ not-true _ (c .if1 .taken))
+    extend-other (s .args .name .now) (s .args .tack .now) (s .args .clock .0) (s .pre .0) (s .pre .4) x (sym t ∙ not-true _ (c .if1 .taken))
 
-initial-requires : tie.Need-initial-requires
-initial-requires c κs =
-    let s = c .before .before .before .before .before .before .before .before .before .before .before .before .before .before in
-    let f = c .before .before .before .before .before .before .before .before .before in
-    (s .pre .0, name-found-at _ (s .pre .0 .fits .nameSlots) _ _ (sym (c .before .before .before .before .before .before .before .n .given .1) ∙ f .find-name .ensures) .below)
-
-pin-end-requires : tie.Need-pin-end-requires
-pin-end-requires c κs =
-    let s = c .before .before .before .before .before .before .before .before .before .before .before .before .before .before .before in
-    let f = c .before .before .before .before .before .before .before .before .before .before in
-    let x = name-found-at _ (s .pre .0 .fits .nameSlots) _ _ (sym (c .before .before .before .before .before .before .before .before .n .given .1) ∙ f .find-name .ensures) in
-    (found-begun (s .args .name .now) (s .args .tack .now) (s .args .clock .0) (s .pre .0) x (s .pre .3) (c .initial .ensures), s .pre .2)
-
-store-end-requires : tie.Need-store-end-requires
-store-end-requires c κs =
-    let s = c .before .before .before .before .before .before .before .before .before .before .before .before .before .before .before .before .before in
-    let f = c .before .before .before .before .before .before .before .before .before .before .before .before in
-    let x = name-found-at _ (s .pre .0 .fits .nameSlots) _ _ (sym (c .before .before .before .before .before .before .before .before .before .before .n .given .1) ∙ f .find-name .ensures) in
-    (s .pre .0, x .below, x .in-use)
+extend-at-requires : tie.Need-extend-at-requires
+extend-at-requires c κs =
+    let f = c .before .before .before .before .before .before .before in
+    let s = f .before .before .before .before .before .before .before in
+    let x = name-found-at _ (s .pre .0 .fits .nameSlots) _ _ (sym (f .n .given .1) ∙ f .before .before .find-name .ensures) in
+    (s .pre .0, x .below, x .in-use, s .pre .2, found-begun (s .args .name .now) (s .args .tack .now) (s .args .clock .0) (s .pre .0) (s .pre .4) x (s .pre .3))
 
 same-length-3 : tie.Need-same-length-3
 same-length-3 c = search needs
 
 returns-3 : tie.Need-returns-3
 returns-3 c =
-    let s = c .before .before .before .before .before .before .before .before .before .before .before .before .before .before .before .before .before .before .before .before in
-    let f = c .before .before .before .before .before .before .before .before .before .before .before .before .before .before .before in
-    let h = c .before .before .before .before .before .before .before .before in
-    let x = name-found-at _ (s .pre .0 .fits .nameSlots) _ _ (sym (c .before .before .before .before .before .before .before .before .before .before .before .before .before .n .given .1) ∙ f .find-name .ensures) in
+    let h = c .before .before .before .before .before in
+    let s = h .before .before .before .before .before .before .before .before .before .before .before .before in
+    let x = name-found-at _ (s .pre .0 .fits .nameSlots) _ _ (sym (h .before .before .before .before .before .n .given .1) ∙ h .before .before .before .before .before .before .before .find-name .ensures) in
     let t = pinned-test (s .pre .0) _ (x .what) (x .there) (s .args .tack .now) (h .before .public-key .ensures) (h .before .before .key-of .ensures .1) (h .holds-key .ensures) in
-    extend-stored (s .args .name .now) (s .args .tack .now) (s .args .clock .0) (s .pre .0) x (sym t ∙ not-false _ (c .before .before .before .before .before .before .before .if1 .left))
-    (c .before .before .before .before .before .initial .ensures) (c .before .before .before .before .pin-end .ensures) (c .before .before .store-end .ensures)
+    extend-stored (s .args .name .now) (s .args .tack .now) (s .args .clock .0) (s .pre .0) (s .pre .4) x (sym t ∙ not-false _ (c .before .before .before .before .if1 .left)) (c .before .before .extend-at .ensures)
 
 pub extend-pin-spec : {M : Type 1} → statement M
 extend-pin-spec =
@@ -98,8 +83,6 @@ extend-pin-spec =
     holds-key-requires
     same-length-2
     returns-2
-    initial-requires
-    pin-end-requires
-    store-end-requires
+    extend-at-requires
     same-length-3
     returns-3)

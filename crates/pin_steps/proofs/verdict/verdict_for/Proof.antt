@@ -33,14 +33,14 @@ is-active-requires c κs =
 returns-2 : tie.Need-returns-2
 returns-2 c =
     let s = c .before .before .before .before .before .before .before .before .before in
-    verdict-inactive (s .pre .0) (s .args .name .now) (s .args .clock .0) (s .args .tack .now)
+    verdict-inactive (s .pre .0) (s .args .name .now) (s .args .clock .0) (s .args .tack .now) (s .pre .2)
     (name-found-at _ (s .pre .0 .fits .nameSlots) _ _ (sym (c .before .before .before .n .given .1) ∙ c .before .before .before .before .before .find-name .ensures))
     (sym (c .before .is-active .ensures) ∙ not-true _ (c .if1 .taken))
 
 returns-3 : tie.Need-returns-3
 returns-3 c =
     let s = c .before .before .before .before .before .before .before .before .before .before in
-    verdict-empty (s .pre .0) (s .args .name .now) (s .args .clock .0) (s .args .tack .now)
+    verdict-empty (s .pre .0) (s .args .name .now) (s .args .clock .0) (s .args .tack .now) (s .pre .2)
     (name-found-at _ (s .pre .0 .fits .nameSlots) _ _ (sym (c .before .before .before .before .n .given .1) ∙ c .before .before .before .before .before .before .find-name .ensures))
     (sym (c .before .before .is-active .ensures) ∙ not-false _ (c .before .if1 .left)) (c .if2 .taken)
 
@@ -65,7 +65,7 @@ returns-4 c =
     let s = c .before .before .before .before .before .before .before .before .before .before .before .before .before .before in
     let x = name-found-at _ (s .pre .0 .fits .nameSlots) _ _ (sym (c .before .before .before .before .before .before .before .before .n .given .1) ∙ c .before .before .before .before .before .before .before .before .before .before .find-name .ensures) in
     let t = pinned-test (s .pre .0) _ (x .what) (x .there) (s .args .tack .now) (c .before .before .public-key .ensures) (c .before .before .before .key-of .ensures .1) (c .before .holds-key .ensures) in
-    verdict-shown (s .pre .0) (s .args .name .now) (s .args .clock .0) (s .args .tack .now) x
+    verdict-shown (s .pre .0) (s .args .name .now) (s .args .clock .0) (s .args .tack .now) (s .pre .2) x
     (sym (c .before .before .before .before .before .before .is-active .ensures) ∙ not-false _ (c .before .before .before .before .before .if1 .left)) true
     (tack-whole (s .args .tack .now) (s .pre .1) (c .before .before .before .before .if2 .left)) (sym t ∙ c .if3 .taken)
 
@@ -74,7 +74,7 @@ returns-5 c =
     let s = c .before .before .before .before .before .before .before .before .before .before .before .before .before .before in
     let x = name-found-at _ (s .pre .0 .fits .nameSlots) _ _ (sym (c .before .before .before .before .before .before .before .before .n .given .1) ∙ c .before .before .before .before .before .before .before .before .before .before .find-name .ensures) in
     let t = pinned-test (s .pre .0) _ (x .what) (x .there) (s .args .tack .now) (c .before .before .public-key .ensures) (c .before .before .before .key-of .ensures .1) (c .before .holds-key .ensures) in
-    verdict-shown (s .pre .0) (s .args .name .now) (s .args .clock .0) (s .args .tack .now) x
+    verdict-shown (s .pre .0) (s .args .name .now) (s .args .clock .0) (s .args .tack .now) (s .pre .2) x
     (sym (c .before .before .before .before .before .before .is-active .ensures) ∙ not-false _ (c .before .before .before .before .before .if1 .left)) false
     (tack-whole (s .args .tack .now) (s .pre .1) (c .before .before .before .before .if2 .left)) (sym t ∙ c .if3 .left)
 

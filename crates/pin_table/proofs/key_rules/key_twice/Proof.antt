@@ -1,5 +1,5 @@
 -- The loop's invariant: none of the first j slots has the key.
-use mathlib.Core.Path.{_≡_, sym, ap₂, _∙_}
+use mathlib.Core.Path.{_≡_, sym}
 use mathlib.Core.Bool.{false}
 use Prim.Native.Nat.{ℕ, _-_, _≤_, _<_}
 use native.Mathlib.Omega.{arith}
@@ -7,6 +7,7 @@ use borrow.Author.Needs.{needs}
 use borrow.Author.Count.{below-more, below-none}
 use Rattle.pin_model.specs.Sound.{keySlot, sameKey, keyTwice}
 use Rattle.octets.proofs.Search.{some-true, some-false}
+use Rattle.pin_table.proofs.Rules.{said}
 use Rattle.pin_table.proofs.key_rules.key_twice.Statement.{statement}
 use Rattle.pin_table.proofs.key_rules.key_twice.Tie as tie
 
@@ -30,7 +31,7 @@ same-key-requires c κs = search needs
 
 returns : tie.Need-returns Inv-loop μ-loop
 unfolding keyTwice
-returns c = sym (some-true _ _ _ (c .before .before .before .loop-test .taken) (sym (ap₂ sameKey (c .before .before .before .before .before .key-slot .ensures .0) (c .before .before .key-slot2 .ensures .0)) ∙ sym (c .before .same-key .ensures) ∙ c .if1 .taken))
+returns c = sym (some-true _ _ _ (c .before .before .before .loop-test .taken) (said sameKey (c .before .before .before .before .before .key-slot .ensures .0) (c .before .before .key-slot2 .ensures .0) (c .before .same-key .ensures) (c .if1 .taken)))
 
 add-j : tie.Need-add-j Inv-loop μ-loop
 add-j c = search needs
@@ -39,7 +40,7 @@ loop-less : tie.Need-loop-less Inv-loop μ-loop
 loop-less c = search needs
 
 loop-again : tie.Need-loop-again Inv-loop μ-loop
-loop-again c = (omega arith, below-more _ _ (c .before .before .before .before .loop .inv .1) (sym (ap₂ sameKey (c .before .before .before .before .before .key-slot .ensures .0) (c .before .before .key-slot2 .ensures .0)) ∙ sym (c .before .same-key .ensures) ∙ c .if1 .left))
+loop-again c = (omega arith, below-more _ _ (c .before .before .before .before .loop .inv .1) (said sameKey (c .before .before .before .before .before .key-slot .ensures .0) (c .before .before .key-slot2 .ensures .0) (c .before .same-key .ensures) (c .if1 .left)))
 
 returns-2 : tie.Need-returns-2 Inv-loop μ-loop
 unfolding keyTwice

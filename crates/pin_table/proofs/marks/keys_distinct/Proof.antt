@@ -5,22 +5,22 @@ use mathlib.Core.List.{List}
 use Prim.Native.Nat.{ℕ, _-_, _≤_}
 use native.Mathlib.Omega.{arith}
 use borrow.Author.Needs.{needs}
-use Rattle.pin_model.specs.Sound.{keySlot, isUsed, keyIn, sameKey, keyTwice, keysDistinct}
+use Rattle.pin_model.specs.Sound.{keySlot, isUsed, keyIn, keyTwice, keysDistinct}
 use Rattle.pin_table.specs.Hashes.{keyMark}
 use Rattle.octets.proofs.Search.{every-true, every-false}
 use Rattle.pin_table.proofs.Rules.{no}
-use Rattle.pin_table.proofs.Seen.{Apart, none-seen, passed-free, passed-used, unseen}
+use Rattle.pin_table.proofs.Seen.{Apart, none-seen, passed-free, passed-used, unseen, keys-double}
 use Rattle.pin_table.proofs.marks.keys_distinct.Statement.{statement}
 use Rattle.pin_table.proofs.marks.keys_distinct.Tie as tie
 
 abbrev Inv-loop : tie.InvT-loop
-Inv-loop area seen₀ n₀ seen n = (n ≤ 64) × Apart (keySlot area) keyIn keyMark seen n
+Inv-loop area seen₀ n₀ seen n = (n ≤ 64) × Apart (keySlot area) keyIn keyMark (keyTwice area) seen n
 
 abbrev μ-loop : tie.MeasureT-loop
 μ-loop area seen₀ n₀ seen n = 64 - n
 
 loop-holds : tie.Need-loop-holds Inv-loop μ-loop
-loop-holds c = (omega arith, none-seen _ _ _)
+loop-holds c = (omega arith, none-seen _ _ _ _)
 
 add-n : tie.Need-add-n Inv-loop μ-loop
 add-n c = search needs
@@ -35,7 +35,7 @@ loop-less : tie.Need-loop-less Inv-loop μ-loop
 loop-less c = search needs
 
 loop-again : tie.Need-loop-again Inv-loop μ-loop
-loop-again c = (omega arith, passed-free _ _ _ _ _ (c .before .before .before .before .loop .inv .1) (ap isUsed (sym (c .before .before .key-slot .ensures .0)) ∙ no (c .before .is-used .ensures) (c .if1 .taken)))
+loop-again c = (omega arith, passed-free (keys-double _) (c .before .before .before .before .loop .inv .1) (ap isUsed (sym (c .before .before .key-slot .ensures .0)) ∙ no (c .before .is-used .ensures) (c .if1 .taken)))
 
 key-mark-requires : tie.Need-key-mark-requires Inv-loop μ-loop
 key-mark-requires c κs = search needs
@@ -50,8 +50,8 @@ loop-again-2 : tie.Need-loop-again-2 Inv-loop μ-loop
 loop-again-2 c =
     let loop = c .before .before .before .before .before .before .before .before .loop in
     let mark = c .before .before .before .key-mark .ensures .0 ∙ ap (λ (s : List ℕ). keyMark (keyIn s)) (c .before .before .before .before .before .before .key-slot .ensures .0) in
-    let once = unseen _ _ _ _ _ (loop .inv .1) _ mark (no (c .before .add .ensures .0) (c .if2 .taken)) in
-    (omega arith, passed-used _ _ _ _ _ (loop .inv .1) _ mark (c .before .before .before .key-mark .ensures .1) once _ (c .before .add .ensures .1))
+    let once = unseen (keys-double _) (loop .inv .1) mark (no (c .before .add .ensures .0) (c .if2 .taken)) in
+    (omega arith, passed-used (keys-double _) (loop .inv .1) mark (c .before .before .before .key-mark .ensures .1) once (c .before .add .ensures .1))
 
 key-twice-requires : tie.Need-key-twice-requires Inv-loop μ-loop
 key-twice-requires c κs = search needs
@@ -64,15 +64,14 @@ loop-less-3 : tie.Need-loop-less-3 Inv-loop μ-loop
 loop-less-3 c = search needs
 
 loop-again-3 : tie.Need-loop-again-3 Inv-loop μ-loop
-unfolding keyTwice sameKey
 loop-again-3 c =
     let loop = c .before .before .before .before .before .before .before .before .before .before .loop in
     let mark = c .before .before .before .before .before .key-mark .ensures .0 ∙ ap (λ (s : List ℕ). keyMark (keyIn s)) (c .before .before .before .before .before .before .before .before .key-slot .ensures .0) in
     let once = sym (c .before .key-twice .ensures) ∙ c .if3 .left in
-    (omega arith, passed-used _ _ _ _ _ (loop .inv .1) _ mark (c .before .before .before .before .before .key-mark .ensures .1) once _ (c .before .before .before .add .ensures .1))
+    (omega arith, passed-used (keys-double _) (loop .inv .1) mark (c .before .before .before .before .before .key-mark .ensures .1) once (c .before .before .before .add .ensures .1))
 
 returns-2 : tie.Need-returns-2 Inv-loop μ-loop
-unfolding keysDistinct keyTwice sameKey
+unfolding keysDistinct
 returns-2 c = sym (every-true _ _ (λ j l. ap not (c .before .loop .inv .1 .once j (omega arith))))
 
 pub keys-distinct-spec : {M : Type 1} → statement M

@@ -1,5 +1,5 @@
 -- A yes was the answer of the second look.
-use mathlib.Core.Path.{_≡_, sym, ap, _∙_}
+use mathlib.Core.Path.{sym, ap, _∙_}
 use mathlib.Core.Bool.{false≢true}
 use borrow.Author.Needs.{needs}
 use Rattle.octets.specs.Octets.{allZero}

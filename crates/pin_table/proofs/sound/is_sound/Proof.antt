@@ -1,5 +1,5 @@
 -- An empty table is sound; any other by its rules.
-use mathlib.Core.Path.{_≡_, sym, _∙_}
+use mathlib.Core.Path.{sym}
 use borrow.Author.Needs.{needs}
 use borrow.Author.Tests.{ne-eqb}
 use Rattle.pin_model.specs.Sound.{sound}

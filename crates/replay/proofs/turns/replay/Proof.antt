@@ -1,5 +1,6 @@
--- The run begins with the area of no calls.
-use mathlib.Core.Path.{refl, sym}
+-- The run begins with the area of no calls, the empty table of edition one.
+use mathlib.Core.Path.{sym}
+use Rattle.pin_model.proofs.SoundTable.{empty-zeros}
 use Rattle.pin_journal.specs.Demand3.{areaOf}
 use borrow.Author.Needs.{needs}
 use Rattle.replay.proofs.turns.replay.Statement.{statement}
@@ -22,7 +23,7 @@ slice-aggregate-run-3 c = search needs
 
 run-requires : tie.Need-run-requires
 unfolding areaOf
-run-requires c κs = (refl, sym (c .before .before .before .before .large-buffer .ensures), sym (c .before .before .before .large-buffer2 .ensures))
+run-requires c κs = (sym empty-zeros, sym (c .before .before .before .before .large-buffer .ensures), sym (c .before .before .before .large-buffer2 .ensures))
 
 returns : tie.Need-returns
 returns c = search needs

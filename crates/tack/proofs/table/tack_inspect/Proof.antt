@@ -1,5 +1,5 @@
 -- Each case has the numbers of the inspection's own contract.
-use mathlib.Core.Path.{_≡_, refl, sym, ap, _∙_}
+use mathlib.Core.Path.{refl, sym, ap, _∙_}
 use borrow.Author.Needs.{needs}
 use Rattle.tack_extension.specs.Answers.{alertOf}
 use Rattle.pin_answers.specs.Numbers.{inspectionAnswer}

@@ -1,0 +1,84 @@
+//! A connection of edition one, as each program takes it.
+
+use crate::wire::HASH;
+use tack::raw;
+
+#[derive(Debug, Clone)]
+pub struct Connection {
+    pub clock: u64,
+    pub name: Vec<u8>,
+    pub extension_came: bool,
+    /// Both programs are to ignore these bytes where no extension came.
+    pub extension: Vec<u8>,
+    pub hash: Vec<u8>,
+    pub handshake_finished: bool,
+    pub key_is_point: bool,
+    pub signature_correct: bool,
+    pub breaks_correct: u8,
+}
+
+impl Connection {
+    /// A finished connection without an extension, which passes every check of the caller.
+    pub fn at(clock: u32, name: &[u8]) -> Connection {
+        Connection {
+            clock: u64::from(clock),
+            name: name.to_vec(),
+            extension_came: false,
+            extension: vec![],
+            hash: HASH.to_vec(),
+            handshake_finished: true,
+            key_is_point: true,
+            signature_correct: true,
+            breaks_correct: 0xff,
+        }
+    }
+
+    /// The same with an extension.
+    pub fn with(self, extension: Vec<u8>) -> Connection {
+        Connection {
+            extension_came: true,
+            extension,
+            ..self
+        }
+    }
+
+    pub fn for_proved(&self) -> raw::Connection<'_> {
+        raw::Connection {
+            clock: self.clock,
+            name: &self.name,
+            extension_came: self.extension_came,
+            extension: &self.extension,
+            spki_sha256: &self.hash,
+            handshake_finished: self.handshake_finished,
+            key_is_point: self.key_is_point,
+            signature_correct: self.signature_correct,
+            breaks_correct: self.breaks_correct,
+        }
+    }
+
+    pub fn for_safe_crate(&self) -> tack::table::Connection<'_> {
+        tack::table::Connection {
+            clock: self.clock,
+            name: &self.name,
+            extension: self.extension_came.then_some(&self.extension[..]),
+            spki_sha256: &self.hash,
+            handshake_finished: self.handshake_finished,
+            key_is_point: self.key_is_point,
+            signature_correct: self.signature_correct,
+            breaks_correct: self.breaks_correct,
+        }
+    }
+
+    pub fn for_second(&self) -> second::Connection<'_> {
+        second::Connection {
+            clock: self.clock,
+            name: &self.name,
+            extension: self.extension_came.then_some(&self.extension[..]),
+            spki_sha256: &self.hash,
+            handshake_finished: self.handshake_finished,
+            key_is_point: self.key_is_point,
+            signature_correct: self.signature_correct,
+            breaks_correct: self.breaks_correct,
+        }
+    }
+}

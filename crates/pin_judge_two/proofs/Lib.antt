@@ -1,0 +1,2 @@
+pub mod TackTests
+pub mod PassingTwo

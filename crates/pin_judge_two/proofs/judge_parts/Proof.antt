@@ -1,0 +1,52 @@
+-- The tests' refusal, or the steps.
+use mathlib.Core.Path.{sym, ap, _∙_}
+use denote.Ref.{now}
+use borrow.Author.Needs.{needs}
+use Rattle.pin_model.specs.Layout.{encode, decode}
+use Rattle.pin_model.specs.Calls.{first}
+use Rattle.pin_answers.specs.Numbers.{checkedNumber}
+use Rattle.pin_steps_two.specs.Parts.{tacksBy}
+use Rattle.pin_judge_two.specs.TestsTwo.{partsTests, partsAnswer, partsTable}
+use Rattle.pin_judge_two.proofs.PassingTwo.{in-order-stage, by-refused, by-granted}
+use Rattle.pin_judge_two.proofs.judge_parts.Statement.{statement}
+use Rattle.pin_judge_two.proofs.judge_parts.Tie as tie
+
+check-tacks-requires : tie.Need-check-tacks-requires
+check-tacks-requires c κs = search needs
+
+enum-known-refusal : tie.Need-enum-known-refusal
+enum-known-refusal c = search needs
+
+same-length : tie.Need-same-length
+same-length c = search needs
+
+returns : tie.Need-returns
+returns c =
+    let s = c .before .before .before .before .before .before .before .before .before .before in
+    let tacks = tacksBy (now (s .args .first)) (now (s .args .second)) (s .args .flags) in
+    by-refused (first (partsTests (s .args .clock .0) (now (s .args .hash)) (s .args .first-is-point) (s .args .first-correct) (s .args .second-is-point) (s .args .second-correct) (now (s .args .first)) (now (s .args .second)) (decode (now (s .args .area))))) (partsAnswer (now (s .args .name)) (s .args .clock .0) tacks (decode (now (s .args .area)))) (now (s .args .area)) (encode (partsTable (now (s .args .name)) (s .args .clock .0) tacks (decode (now (s .args .area))))) _
+    (sym (c .before .before .before .check-tacks .ensures) ∙ ap checkedNumber (c .before .refusal .given .1))
+
+enum-told : tie.Need-enum-told
+enum-told c = search needs
+
+apply-requires : tie.Need-apply-requires
+apply-requires c κs =
+    let s = c .before .before .before .before .before .before .before .before .before .before in
+    (s .pre .0 .admitted .stored, in-order-stage (now (s .args .first)) (now (s .args .second)) (s .args .flags) (s .pre .0), s .pre .1, s .pre .0 .admitted .nameFormed)
+
+same-length-2 : tie.Need-same-length-2
+same-length-2 c = search needs
+
+returns-2 : tie.Need-returns-2
+returns-2 c =
+    let s = c .before .before .before .before .before .before .before .before .before .before .before .before .before in
+    let tacks = tacksBy (now (s .args .first)) (now (s .args .second)) (s .args .flags) in
+    let g = by-granted (first (partsTests (s .args .clock .0) (now (s .args .hash)) (s .args .first-is-point) (s .args .first-correct) (s .args .second-is-point) (s .args .second-correct) (now (s .args .first)) (now (s .args .second)) (decode (now (s .args .area))))) (partsAnswer (now (s .args .name)) (s .args .clock .0) tacks (decode (now (s .args .area)))) (now (s .args .area)) (encode (partsTable (now (s .args .name)) (s .args .clock .0) tacks (decode (now (s .args .area)))))
+    (sym (c .before .before .before .before .before .before .check-tacks .ensures) ∙ ap checkedNumber (c .before .before .before .before .enum-told .given .1)) in
+    (c .before .before .apply .ensures .0 ∙ g .0, c .before .before .apply .ensures .1 ∙ g .1)
+
+pub judge-parts-spec : {M : Type 1} → statement M
+judge-parts-spec =
+    tie.close
+    (tie.spec check-tacks-requires enum-known-refusal same-length returns enum-told apply-requires same-length-2 returns-2)

@@ -1,0 +1,2 @@
+pub mod KnownTwo
+pub mod TestsTwo

@@ -1,0 +1,3 @@
+pub mod ShownTacks
+pub mod OwnPins
+pub mod Settled

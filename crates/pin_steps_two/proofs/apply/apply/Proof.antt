@@ -1,0 +1,31 @@
+-- The floors and latest, then the rest on the table that they leave.
+use denote.Ref.{now}
+use borrow.Author.Needs.{needs}
+use Rattle.pin_model.specs.Layout.{decode}
+use Rattle.pin_records.proofs.HeldSlots.{holds-stored}
+use Rattle.pin_steps_two.proofs.Settled.{raised-as, judged-from}
+use Rattle.pin_model.proofs.SoundTwo.{Stage}
+use Rattle.pin_steps_two.proofs.apply.apply.Statement.{statement}
+use Rattle.pin_steps_two.proofs.apply.apply.Tie as tie
+
+raise-floors-requires : tie.Need-raise-floors-requires
+raise-floors-requires c κs = search needs
+
+settle-requires : tie.Need-settle-requires
+settle-requires c κs =
+    let s = c .before .before .before .before .before .before .before .before .before in
+    let h = c .before .before .before .raise-floors .ensures in
+    (holds-stored h, raised-as (now (s .args .first)) (now (s .args .second)) (s .args .flags) (s .args .clock .0) (decode (now (s .args .area))) (Stage (s .args .clock .0)) h (s .pre .1), s .pre .2, s .pre .3)
+
+same-length : tie.Need-same-length
+same-length c = search needs
+
+returns : tie.Need-returns
+returns c =
+    let s = c .before .before .before .before .before .before .before .before .before .before .before .before in
+    judged-from (now (s .args .first)) (now (s .args .second)) (s .args .flags) (s .args .clock .0) (decode (now (s .args .area))) (now (s .args .name)) (c .before .before .before .before .before .before .raise-floors .ensures) (c .before .before .settle .ensures .0) (c .before .before .settle .ensures .1)
+
+pub apply-spec : {M : Type 1} → statement M
+apply-spec =
+    tie.close
+    (tie.spec raise-floors-requires settle-requires same-length returns)

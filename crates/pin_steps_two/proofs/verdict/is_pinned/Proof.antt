@@ -1,0 +1,53 @@
+-- The loop's invariant: none of the first n slots has an active record of the name.
+use mathlib.Core.Path.{_≡_, sym, _∙_}
+use mathlib.Core.Bool.{false}
+use mathlib.Core.Option.{none}
+use Prim.Native.Nat.{ℕ, _-_, _≤_, _<_}
+use native.Mathlib.Omega.{arith}
+use denote.Ref.{now}
+use lib.ListN.{getD}
+use borrow.Author.Needs.{needs}
+use borrow.Author.Count.{below-more, below-none}
+use Rattle.pin_model.specs.Layout.{decode}
+use Rattle.pin_model.specs.JudgeTwo.{activeOf}
+use Rattle.pin_model.proofs.Places.{any-at, any-none}
+use Rattle.pin_records.specs.Find.{holds}
+use Rattle.pin_steps_two.proofs.verdict.is_pinned.Statement.{statement}
+use Rattle.pin_steps_two.proofs.verdict.is_pinned.Tie as tie
+
+abbrev Inv-loop : tie.InvT-loop
+Inv-loop area name clock n₀ n = (n ≤ 128) × ((j : ℕ) → j < n → holds (activeOf name (clock .0)) (getD (decode area .names) j none) ≡ false)
+
+abbrev μ-loop : tie.MeasureT-loop
+μ-loop area name clock n₀ n = 128 - n
+
+loop-holds : tie.Need-loop-holds Inv-loop μ-loop
+loop-holds c = (omega arith, below-none _)
+
+holds-active-requires : tie.Need-holds-active-requires Inv-loop μ-loop
+holds-active-requires c κs = search needs
+
+returns : tie.Need-returns Inv-loop μ-loop
+returns c =
+    let s = c .before .before .before .before .before .before in
+    sym (any-at (activeOf (now (s .args .name)) (s .args .clock .0)) (decode (now (s .args .area)) .names) (c .before .before .before .loop .n) (sym (c .before .holds-active .ensures) ∙ c .if1 .taken))
+
+add-n : tie.Need-add-n Inv-loop μ-loop
+add-n c = search needs
+
+loop-less : tie.Need-loop-less Inv-loop μ-loop
+loop-less c = search needs
+
+loop-again : tie.Need-loop-again Inv-loop μ-loop
+loop-again c = (omega arith, below-more _ _ (c .before .before .before .loop .inv .1) (sym (c .before .holds-active .ensures) ∙ c .if1 .left))
+
+returns-2 : tie.Need-returns-2 Inv-loop μ-loop
+returns-2 c =
+    let s = c .before .before .before .before in
+    sym (any-none (activeOf (now (s .args .name)) (s .args .clock .0)) (decode (now (s .args .area)) .names)
+    (λ j l. c .before .loop .inv .1 j (omega (arith, l, s .pre .fits .nameSlots))))
+
+pub is-pinned-spec : {M : Type 1} → statement M
+is-pinned-spec =
+    tie.close
+    (tie.spec Inv-loop μ-loop loop-holds holds-active-requires returns add-n loop-less loop-again returns-2)

@@ -1,0 +1,3 @@
+pub mod ExtensionTwo
+pub mod AnswersTwo
+pub mod PlacesTwo
