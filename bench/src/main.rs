@@ -3,6 +3,7 @@
 //! * `bench [REPEATS]`: the soundness check and 20,000 calls of the library, 9 repeats unless said.
 //! * `bench nights [REPEATS [CALLS]]`: nights of recorded calls replayed, 5 repeats of 1,000,000 calls unless said, and of a
 //!   tenth of them on a full table.
+//! * `bench two [REPEATS]`: 20,000 calls of edition two on a full table, 9 repeats unless said.
 //! * `bench versions FOLDER [REPEATS]`: recorded calls on six tables, from one without pins to one that an adversary chose, by the
 //!   `replay` and the `lent_replay` of an earlier version, which stand in the folder, by those of this one, and by the second
 //!   program, 9 repeats unless said. `bench/versions` builds and runs it.
@@ -14,12 +15,14 @@ mod replays;
 mod soundness;
 mod tables;
 mod timing;
+mod two;
 mod versions;
 
 use std::path::Path;
 use std::process::ExitCode;
 
-const USAGE: &str = "bench [REPEATS] | nights [REPEATS [CALLS]] | versions FOLDER [REPEATS]";
+const USAGE: &str =
+    "bench [REPEATS] | nights [REPEATS [CALLS]] | two [REPEATS] | versions FOLDER [REPEATS]";
 
 fn number(argument: &str) -> Result<usize, String> {
     match argument.replace('_', "").parse() {
@@ -34,6 +37,8 @@ fn run(arguments: &[&str]) -> Result<(), String> {
         ["nights"] => replays::report(5, 1_000_000),
         ["nights", repeats] => replays::report(number(repeats)?, 1_000_000),
         ["nights", repeats, calls] => replays::report(number(repeats)?, number(calls)?),
+        ["two"] => edition_two(9),
+        ["two", repeats] => edition_two(number(repeats)?),
         ["versions"] => Err(USAGE.to_string()),
         ["versions", before] => versions::report(Path::new(before), 9),
         ["versions", before, repeats] => versions::report(Path::new(before), number(repeats)?),
@@ -46,6 +51,11 @@ fn library(repeats: usize) -> Result<(), String> {
     soundness::report(repeats);
     println!();
     night::report(repeats);
+    Ok(())
+}
+
+fn edition_two(repeats: usize) -> Result<(), String> {
+    two::report(repeats);
     Ok(())
 }
 

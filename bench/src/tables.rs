@@ -25,18 +25,15 @@ pub fn name(number: usize, length: usize) -> Vec<u8> {
     format!("no{number:03}.{middle}clinic.example").into_bytes()
 }
 
-/// An extension with one tack of generation 3, activation enabled.
-pub fn showing(key: &[u8; 64]) -> Vec<u8> {
-    let parts: [&[u8]; 7] = [
-        &[166],
-        key,
-        &[3, 3],
-        &[0xff; 4],
-        &HASH,
-        &[0x55; 64],
-        &[0, 0, 1],
-    ];
+/// A tack of generation 3.
+pub fn tack(key: &[u8; 64]) -> Vec<u8> {
+    let parts: [&[u8]; 5] = [key, &[3, 3], &[0xff; 4], &HASH, &[0x55; 64]];
     parts.concat()
+}
+
+/// An extension with one tack, activation enabled.
+pub fn showing(key: &[u8; 64]) -> Vec<u8> {
+    [&[166], &tack(key)[..], &[0, 0, 1]].concat()
 }
 
 /// A connection that passes every check.
