@@ -1,8 +1,8 @@
 // The tests that a call on any bytes makes before it looks at the table: the area, and the name.
 use pin_answers::Checked;
 use pin_answers::Refusal;
+use pin_soundness::sound;
 use pin_table::slots::AREA_LENGTH;
-use pin_table::sound;
 ghost use mathlib.Core.Path.{_≡_};
 ghost use Rattle.pin_model.specs.Calls.{first, areaTests};
 ghost use Rattle.pin_answers.specs.Numbers.{checkedNumber};

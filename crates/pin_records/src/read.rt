@@ -74,5 +74,5 @@ pub fn refers_to(area: &[u8], n: NameSlot, k: KeySlot) -> bool
     requires { ⌜ Stored (now area) × (n .0 < 128) × (k .0 < 64) × (isFree (getD (decode (now area) .keys) (k .0) none) ≡ false) ⌝ }
     ensures { λ r. ⌜ r ≡ holds (pinnedTo (keyAt (getD (decode (now (area .entry)) .keys) (k .0) none))) (getD (decode (now (area .entry)) .names) (n .0) none) ⌝ }
 {
-    pin_table::links::refers_to(slots::name_slot(area, n), k)
+    slots::refers_to(slots::name_slot(area, n), k)
 }

@@ -1,4 +1,1 @@
 pub mod Rules
-pub mod Hashing
-pub mod SeenBits
-pub mod Seen

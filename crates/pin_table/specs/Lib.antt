@@ -1,4 +1,1 @@
 pub mod Clocks
-pub mod Hashes
-pub mod Marked
-pub mod SeenMarks

@@ -6,7 +6,7 @@ ghost use Prim.Native.Nat.{_<_};
 ghost use lib.ListN.{length};
 ghost use Rattle.octets.specs.Octets.{part};
 ghost use Rattle.pin_model.specs.Layout.{areaLength};
-ghost use Rattle.pin_model.specs.Sound.{latestIn, ofTwo, keySlot, nameSlot, isUsed, keyIn, keyNumber, nameLength, initialIn, endIn, nameIn};
+ghost use Rattle.pin_model.specs.Sound.{latestIn, ofTwo, keySlot, nameSlot, isUsed, keyIn, keyNumber, nameLength, initialIn, endIn, nameIn, refersTo};
 
 pub const KEY_SLOTS: usize = 64;
 
@@ -136,4 +136,16 @@ pub fn padded_name(s: &[u8]) -> &[u8]
     ensures { λ r. ⌜ (now r ≡ part (now (s .entry)) 16 256) × (length (now r) ≡ 256) ⌝ }
 {
     &s[NAME_AT..NAME_SLOT_LENGTH]
+}
+
+// Whether it is used and refers to the key slot.
+pub fn refers_to(s: &[u8], k: KeySlot) -> bool
+    requires { ⌜ length (now s) ≡ 272 ⌝ }
+    ensures { λ r. ⌜ r ≡ refersTo (k .0) (now (s .entry)) ⌝ }
+{
+    if !is_used(s) {
+        return false;
+    }
+    let m = key_number(s);
+    m.0 == k.0
 }

@@ -1,0 +1,4 @@
+pub mod Rules
+pub mod Hashing
+pub mod SeenBits
+pub mod Seen
