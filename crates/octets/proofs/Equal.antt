@@ -30,6 +30,11 @@ same-refl (x ∷ xs) = rw (eq-eqb x x refl) (same-refl xs)
 pub same-eq : (xs ys : List ℕ) → xs ≡ ys → same xs ys ≡ true
 same-eq xs ys e = rw e (same-refl ys)
 
+-- compared the other way round
+pub same-turned : (xs ys : List ℕ) → same xs ys ≡ same ys xs
+same-turned xs ys =
+    both-ways (same xs ys) (same ys xs) (λ e. same-eq ys xs (sym (same-true xs ys e))) (λ e. same-eq xs ys (sym (same-true ys xs e)))
+
 pub same-differ : (xs ys : List ℕ) (i : ℕ) → (getD xs i 0 ≡ getD ys i 0 → ⊥) → same xs ys ≡ false
 same-differ xs ys i h = is-false (same xs ys) (λ e. h (ap (λ (l : List ℕ). getD l i 0) (same-true xs ys e)))
 

@@ -1,11 +1,11 @@
 -- Laws of `specs/Search.antt`: what a loop over the numbers below n has to show. Assumes nothing.
 use mathlib.Core.Path.{_≡_, refl, sym, ap, _∙_}
-use mathlib.Core.Bool.{Bool, true, false, _&&_, _||_, false≢true, true≢false, and-false, and-true, and-assoc, or-true, or-false, or-assoc}
+use mathlib.Core.Bool.{Bool, true, false, not, _&&_, _||_, false≢true, true≢false, and-false, and-true, and-assoc, or-true, or-false, or-assoc}
 use Prim.Native.Nat.{ℕ, zero, suc, _+_, _≤_, _<_, zero-le, suc-le-suc}
 use native.Mathlib.Nat.{le-of-suc-le-suc, not-suc-le-zero}
 use native.Mathlib.Numerals.{add-one}
 use Rattle.octets.specs.Search.{every, some, first}
-use Rattle.octets.proofs.Tests.{and-left, and-right}
+use Rattle.octets.proofs.Tests.{both-ways, and-left, and-right, and-both}
 
 pub every-true : (p : ℕ → Bool) (n : ℕ) → ((i : ℕ) → i < n → p i ≡ true) → every p n ≡ true
 unfolding every
@@ -38,7 +38,22 @@ every-suc p (suc n) =
 pub every-more : (p : ℕ → Bool) (n : ℕ) → every p (n + 1) ≡ (every p n && p n)
 every-more p n = ap (every p) (add-one n) ∙ every-suc p n
 
--- the same of `some`
+-- neither of two tests
+neither : (x y : Bool) → not (x || y) ≡ (not x && not y)
+neither true y = refl
+neither false y = refl
+
+pub every-neither : (p q : ℕ → Bool) (n : ℕ) → every (λ i. not (p i || q i)) n ≡ (every (λ i. not (p i)) n && every (λ i. not (q i)) n)
+every-neither p q n =
+    both-ways _ _
+    (λ e.
+    let both : (i : ℕ) → i < n → (not (p i) && not (q i)) ≡ true = λ i l. sym (neither (p i) (q i)) ∙ every-at _ n i e l in
+    and-both _ _ (every-true _ n (λ i l. and-left (not (p i)) _ (both i l))) (every-true _ n (λ i l. and-right (not (p i)) _ (both i l))))
+    (λ e.
+    every-true _ n
+    (λ i l. neither (p i) (q i) ∙ and-both _ _ (every-at _ n i (and-left (every (λ j. not (p j)) n) _ e) l) (every-at _ n i (and-right (every (λ j. not (p j)) n) _ e) l)))
+
+-- one number more, of `some`
 some-suc : (p : ℕ → Bool) (n : ℕ) → some p (suc n) ≡ (some p n || p n)
 unfolding some
 some-suc p zero = or-false (p zero)

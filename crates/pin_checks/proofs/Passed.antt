@@ -1,6 +1,6 @@
 -- What a refused call answers and leaves, and what a call knows whose area has passed. Assumes nothing.
-use mathlib.Core.Path.{_≡_, refl, sym, ap, _∙_}
-use mathlib.Core.Bool.{Bool, true, false, cond, not}
+use mathlib.Core.Path.{_≡_, sym, ap, _∙_}
+use mathlib.Core.Bool.{Bool, true, false, not}
 use mathlib.Core.List.{List, [], _∷_, _++_}
 use mathlib.Core.Option.{Option, none, some}
 use Prim.Native.Nat.{ℕ}
@@ -8,37 +8,18 @@ use lib.ListN.{length}
 use borrow.Author.Tests.{eq-eqb}
 use Rattle.octets.proofs.Numbers.{Bytes}
 use Rattle.host_name.specs.Name.{wellFormed}
-use Rattle.tack_extension.proofs.Steps.{never-some}
 use Rattle.pin_model.specs.Table.{soundTable}
 use Rattle.pin_model.specs.Layout.{areaLength, encode, decode}
 use Rattle.pin_model.specs.Sound.{sound}
 use Rattle.pin_model.specs.Calls.{Call, first, areaTests, plain, refusal, granted, tableAfter, answerBy, answer, areaAfter}
 use Rattle.pin_model.proofs.Rules.{rules-of}
+use Rattle.pin_model.proofs.First.{first-here, first-later}
 use Rattle.pin_model.proofs.Refusals.{AreaFacts, area-facts}
 use Rattle.pin_model.proofs.SoundArea.{SoundArea, sound-decode, sound-fits}
 use Rattle.pin_model.proofs.SoundFacts.{SoundFacts, sound-facts}
 use Rattle.pin_model.proofs.AreaKept.{refused-same, granted-after}
 use Rattle.pin_records.specs.Holds.{Stored}
 use Rattle.pin_checks.specs.Tests.{namedTests}
-
--- the tests of a list in two parts
-pub first-here : (tests later : List (Bool × ℕ)) (n : ℕ) → first tests ≡ some n → first (tests ++ later) ≡ some n
-first-here [] later n e = never-some e
-first-here (test ∷ tests) later n e = go (test .0) e (first-here tests later n)
-  where
-    go : (b : Bool) → cond b (some (test .1)) (first tests) ≡ some n → (first tests ≡ some n → first (tests ++ later) ≡ some n)
-        → cond b (some (test .1)) (first (tests ++ later)) ≡ some n
-    go true d ih = d
-    go false d ih = ih d
-
-pub first-later : (tests later : List (Bool × ℕ)) → first tests ≡ none → first (tests ++ later) ≡ first later
-first-later [] later e = refl
-first-later (test ∷ tests) later e = go (test .0) e (first-later tests later)
-  where
-    go : (b : Bool) → cond b (some (test .1)) (first tests) ≡ none → (first tests ≡ none → first (tests ++ later) ≡ first later)
-        → cond b (some (test .1)) (first (tests ++ later)) ≡ first later
-    go true d ih = never-some (sym d)
-    go false d ih = ih d
 
 -- a sound area passes 10 and 11
 pub area-passes : (b : List ℕ) → sound b ≡ true → first (areaTests b) ≡ none

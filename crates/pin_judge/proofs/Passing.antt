@@ -20,12 +20,12 @@ use Rattle.pin_model.specs.Layout.{encode, decode}
 use Rattle.pin_model.specs.Sound.{sound}
 use Rattle.pin_model.specs.Judge.{Connection, connection, partsOf, tackShown, breaksShown, isNone, isEnabled}
 use Rattle.pin_model.specs.Calls.{Answer, plain, judge, first, areaTests, laterTests, refusal, answer, areaAfter}
-use Rattle.pin_model.proofs.First.{passed}
+use Rattle.pin_model.proofs.First.{passed, first-here, first-later}
 use Rattle.pin_answers.specs.Numbers.{checkedNumber}
 use Rattle.pin_answers.specs.declared.Checked.{Checked}
 use Rattle.pin_answers.specs.declared.Checked.the-variants.{Passed}
 use Rattle.pin_checks.specs.Tests.{namedTests}
-use Rattle.pin_checks.proofs.Passed.{first-here, first-later, area-passes, named-passes, call-refused, call-granted, Ready, ready}
+use Rattle.pin_checks.proofs.Passed.{area-passes, named-passes, call-refused, call-granted, Ready, ready}
 use Rattle.pin_tests.specs.Tests.{shownTests}
 use Rattle.pin_judge.specs.Known.{Admitted, InOrder}
 use Rattle.pin_judge.specs.Applied.{appliedBy, appliedAnswer}

@@ -1,2 +1,1 @@
-pub mod TackTests
 pub mod PassingTwo

@@ -6,6 +6,7 @@ use mathlib.Core.Option.{Option, none, some}
 use Prim.Native.Nat.{ℕ, _/_, _%_, _≤_, _<_}
 use native.Mathlib.Omega.{arith}
 use lib.Dec.{eqb, ltb}
+use lib.ListN.{take}
 use borrow.Author.Tests.{lt-ltb, le-ltb}
 use Rattle.octets.proofs.Numbers.{Bytes}
 use Rattle.host_name.specs.Name.{wellFormed}
@@ -19,14 +20,21 @@ use Rattle.pin_model.specs.Layout.{encode, decode}
 use Rattle.pin_model.specs.Sound.{sound}
 use Rattle.pin_model.specs.Judge.{isNone}
 use Rattle.pin_model.specs.JudgeTwo.{ConnectionTwo, Shown, partsTwoOf, shownIn, tacksIn, tacksShown, partTests, tacksTests, oneKeyTwice, raisedAt, verdictTwo, judgedTwo, noRoomTwo}
-use Rattle.pin_model.specs.Calls.{Answer, plain, judgeTwo, first, areaTests, laterTests, refusal, answerBy, answer, areaBy, areaAfter}
+use Rattle.pin_model.specs.Calls.{Answer, plain, judgeTwo, first, areaTests, laterTests, refusal, answerBy, answer, areaBy, areaAfter, namedTwo}
+use Rattle.pin_model.proofs.First.{first-here, first-later}
+use Rattle.pin_model.proofs.LongNames.{cut-judge-two}
 use Rattle.pin_model.proofs.TacksShown.{good-tacks}
 use Rattle.pin_model.proofs.SoundFacts.{sound-facts}
 use Rattle.pin_model.proofs.SoundTwo.{Stage, raised-stage}
-use Rattle.pin_checks.proofs.Passed.{first-here, first-later, area-passes, call-refused, Ready, ready}
-use Rattle.pin_steps_two.specs.Parts.{tacksBy, bothTacks, TackParts}
+use Rattle.pin_checks.proofs.Passed.{area-passes, call-refused, Ready, ready}
+use Rattle.pin_answers.specs.Numbers.{refusalNumber, checkedNumber}
+use Rattle.pin_answers.specs.declared.Refusal.{Refusal}
+use Rattle.pin_answers.specs.declared.Checked.{Checked}
+use Rattle.pin_answers.specs.declared.Checked.the-variants as checked
+use Rattle.pin_tests_two.specs.Parts.{tacksBy, bothTacks, TackParts}
+use Rattle.pin_tests_two.specs.TestsTwo.{anyRevoked, partsTests}
 use Rattle.pin_judge_two.specs.KnownTwo.{AdmittedTwo, InOrderTwo}
-use Rattle.pin_judge_two.specs.TestsTwo.{anyRevoked, partsTests, partsAnswer, partsTable}
+use Rattle.pin_judge_two.specs.StepsTwo.{partsAnswer, partsTable}
 
 -- what the reader's answer says of the parts
 pub record Read (o : Option PartsTwo) (flags : ℕ) : Type 0 where
@@ -56,12 +64,16 @@ in-order-stage {area} {name} {clock} f s flags known =
     (known .clockInOrder) (known .admitted .clockInLimit)
 
 -- the answer and the area by a refusal, or by none
-module _ (o : Option ℕ) (a : Answer) (b x : List ℕ) where
-  pub by-refused : (n : ℕ) → o ≡ some n → (plain n ≡ answerBy o a) × (b ≡ areaBy o b x)
-  by-refused n e = (sym (ap (λ (r : Option ℕ). answerBy r a) e), sym (ap (λ (r : Option ℕ). areaBy r b x) e))
+module _ {k : Checked} {o : Option ℕ} (e : checkedNumber k ≡ o) (a : Answer) (b x : List ℕ) where
+  pub by-refused : {r : Refusal} → k ≡ checked.Refused r → (plain (refusalNumber r) ≡ answerBy o a) × (b ≡ areaBy o b x)
+  by-refused {r} d =
+      let is : o ≡ some (refusalNumber r) = sym e ∙ ap checkedNumber d in
+      (sym (ap (λ (n : Option ℕ). answerBy n a) is), sym (ap (λ (n : Option ℕ). areaBy n b x) is))
 
-  pub by-granted : o ≡ none → (a ≡ answerBy o a) × (x ≡ areaBy o b x)
-  by-granted e = (sym (ap (λ (r : Option ℕ). answerBy r a) e), sym (ap (λ (r : Option ℕ). areaBy r b x) e))
+  pub by-granted : k ≡ checked.Passed → {y : Answer} {after : List ℕ} → y ≡ a → after ≡ x → (y ≡ answerBy o a) × (after ≡ areaBy o b x)
+  by-granted d f g =
+      let is : o ≡ none = sym e ∙ ap checkedNumber d in
+      (f ∙ sym (ap (λ (n : Option ℕ). answerBy n a) is), g ∙ sym (ap (λ (n : Option ℕ). areaBy n b x) is))
 
 -- 14, by the numbers that were read
 pub early : {x y a b : ℕ} → x ≡ a → y ≡ b → x < y → a < b
@@ -236,3 +248,13 @@ module _ (c : ConnectionTwo) (b : List ℕ) where
             (by-parts r ef es
             (λ f s flags. after ≡ areaBy (first (partsTests (c .clock) (c .hash) (c .keyIsPoint) (c .signatureCorrect) (c .secondKeyIsPoint) (c .secondSignatureCorrect) f s t))
             b (encode (partsTable (c .name) (c .clock) (tacksBy f s flags) t))) d)
+
+-- what a call is answered, and the area that it leaves, where the name that is handed on is cut at 254 bytes
+pub uncut : (c : ConnectionTwo) (name b : List ℕ) {front after : List ℕ} {r : Answer} → front ≡ take 254 name
+    → r ≡ answer (judgeTwo (namedTwo front c)) b → after ≡ areaAfter (judgeTwo (namedTwo front c)) b
+    → (r ≡ answer (judgeTwo (namedTwo name c)) b) × (after ≡ areaAfter (judgeTwo (namedTwo name c)) b)
+uncut c name b its a l =
+    let same = cut-judge-two c name b in (
+      a ∙ ap (λ (n : List ℕ). answer (judgeTwo (namedTwo n c)) b) its ∙ same .0,
+      l ∙ ap (λ (n : List ℕ). areaAfter (judgeTwo (namedTwo n c)) b) its ∙ same .1,
+    )

@@ -1,2 +1,2 @@
 pub mod KnownTwo
-pub mod TestsTwo
+pub mod StepsTwo

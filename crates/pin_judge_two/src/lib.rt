@@ -17,11 +17,10 @@ ghost use Rattle.pin_model.specs.Sound.{sound};
 ghost use Rattle.pin_model.specs.JudgeTwo.{connectionTwo};
 ghost use Rattle.pin_model.specs.Calls as calls;
 ghost use Rattle.pin_answers.specs.Numbers.{judgementAnswer};
-ghost use Rattle.pin_steps_two.specs.Parts.{tacksBy, TackParts};
+ghost use Rattle.pin_tests_two.specs.Parts.{tacksBy, TackParts};
+ghost use Rattle.pin_tests_two.specs.TestsTwo.{partsTests};
 ghost use Rattle.pin_judge_two.specs.KnownTwo.{AdmittedTwo, InOrderTwo};
-ghost use Rattle.pin_judge_two.specs.TestsTwo.{partsTests, partsAnswer, partsTable};
-
-mod tests;
+ghost use Rattle.pin_judge_two.specs.StepsTwo.{partsAnswer, partsTable};
 
 // 24, those of each tack, 22, and the steps where none applies.
 fn judge_parts(
@@ -41,7 +40,7 @@ fn judge_parts(
     ensures answer { λ r. ⌜ judgementAnswer r ≡ calls.answerBy (calls.first (partsTests (clock .0) (now (hash .entry)) «first_is_point» «first_correct» «second_is_point» «second_correct» (now (first .entry)) (now (second .entry)) (decode (now (area .entry))))) (partsAnswer (now (name .entry)) (clock .0) (tacksBy (now (first .entry)) (now (second .entry)) flags) (decode (now (area .entry)))) ⌝ }
     ensures area { λ _. ⌜ now (area .exit) ≡ calls.areaBy (calls.first (partsTests (clock .0) (now (hash .entry)) «first_is_point» «first_correct» «second_is_point» «second_correct» (now (first .entry)) (now (second .entry)) (decode (now (area .entry))))) (now (area .entry)) (encode (partsTable (now (name .entry)) (clock .0) (tacksBy (now (first .entry)) (now (second .entry)) flags) (decode (now (area .entry))))) ⌝ }
 {
-    if let Checked::Refused(refusal) = tests::check_tacks(
+    if let Checked::Refused(refusal) = pin_tests_two::check_tacks(
         area,
         clock,
         first,

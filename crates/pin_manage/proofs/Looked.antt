@@ -16,6 +16,7 @@ use Rattle.pin_model.specs.Slots.{used}
 use Rattle.pin_model.specs.Table.{clockLimit, KeyRecord, NameRecord, nameIs}
 use Rattle.pin_model.specs.Layout.{decode, placeOf}
 use Rattle.pin_model.specs.Calls.{Answer, first, plain, refusal, answer, inspect, floorOf, inspectedWith, inspectedIn, inspectedSecond, inspectedBy}
+use Rattle.pin_model.proofs.First.{first-here, first-later}
 use Rattle.pin_table.specs.declared.slots.NameSlot.{NameSlot}
 use Rattle.pin_records.specs.Holds.{Stored}
 use Rattle.pin_records.specs.Find.{holds, isFree, firstSlot, secondSlot, nameFound, floorAt, initialAt, endAt}
@@ -26,7 +27,7 @@ use Rattle.pin_records.proofs.Placed.{first-passes, holds-used}
 use Rattle.pin_records.proofs.Found.{name-there, name-not-there}
 use Rattle.pin_records.proofs.SecondSlots.{second-passes}
 use Rattle.pin_checks.specs.Tests.{namedTests}
-use Rattle.pin_checks.proofs.Passed.{first-here, first-later, call-refused, call-granted}
+use Rattle.pin_checks.proofs.Passed.{call-refused, call-granted}
 use Rattle.pin_manage.specs.Inspected.{recordSlot, inspectedSlot}
 
 -- the floor in a key's own slot is the floor of the key

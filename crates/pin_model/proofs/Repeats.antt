@@ -11,8 +11,8 @@ use lib.ListN.{getD}
 use borrow.Author.Tests.{eqb-true, eq-eqb, ltb-true, not-true}
 use Rattle.octets.specs.Octets.{same}
 use Rattle.octets.specs.Search.{every, some as someBelow}
-use Rattle.octets.proofs.Tests.{byTest, is-false, both-ways, and-left, and-right, and-both, or-cases, below-or}
-use Rattle.octets.proofs.Search.{every-true, every-at, some-true}
+use Rattle.octets.proofs.Tests.{byTest, is-false, both-ways, and-left, and-right, and-both, below-or}
+use Rattle.octets.proofs.Search.{every-true, every-at, every-neither, some-true}
 use Rattle.octets.proofs.Equal.{same-true, same-eq, same-refl}
 use Rattle.pin_model.specs.Slots.{used, apart}
 use Rattle.pin_model.specs.Table.{KeyRecord, NameRecord, keyIs, nameIs, pinIs, recordsOfAName}
@@ -42,26 +42,6 @@ some-hit p (suc n) e = go (p zero) refl e (some-hit (λ i. p (suc i)) n)
     go : (b : Bool) → p zero ≡ b → (b || someBelow (λ i. p (suc i)) n) ≡ true → (someBelow (λ i. p (suc i)) n ≡ true → Hit (λ i. p (suc i)) n) → Hit p (suc n)
     go true d e ih = record { at = zero; below = suc-le-suc zero-le; holds = d }
     go false d e ih = let h : Hit (λ i. p (suc i)) n = ih e in record { at = suc (h .at); below = suc-le-suc (h .below); holds = h .holds }
-
--- whichever the edition, a slot that comes again has its name in a slot before it
-some-implied : (p q : ℕ → Bool) (n : ℕ) → ((i : ℕ) → p i ≡ true → q i ≡ true) → someBelow p n ≡ true → someBelow q n ≡ true
-some-implied p q n h e = let f : Hit p n = some-hit p n e in some-true q n (f .at) (f .below) (h (f .at) (f .holds))
-
-pub again-twice : (b : List ℕ) (n : ℕ) → nameAgain b n ≡ true → nameTwice b n ≡ true
-unfolding nameAgain pinTwice nameThrice nameTwice samePin
-again-twice b n e = go (ofTwo b) e
-  where
-    its : ℕ → Bool
-    its m = sameName (nameSlot b n) (nameSlot b m)
-
-    go : (two : Bool) → cond two (pinTwice b n || nameThrice b n) (nameTwice b n) ≡ true → nameTwice b n ≡ true
-    go false d = d
-    go true d =
-        ⊎-elim
-        (λ p. some-implied (λ m. samePin (nameSlot b n) (nameSlot b m)) its n
-        (λ m. and-left (its m) (eqb (keyNumber (nameSlot b n)) (keyNumber (nameSlot b m)))) p)
-        (λ p. some-implied (λ m. its m && nameTwice b m) its n (λ m. and-left (its m) (nameTwice b m)) p)
-        (or-cases (pinTwice b n) (nameThrice b n) d)
 
 -- the key of each used name slot
 module _ (b : List ℕ) (noKeyTwice : keysDistinct b ≡ true) (keyedNames : namesKeyed b ≡ true) where
@@ -223,21 +203,15 @@ module _ (b : List ℕ) (noKeyTwice : keysDistinct b ≡ true) (keyedNames : nam
   unfolding namesDistinct nameAgain
   distinct-few h = go (ofTwo b) h
     where
-      neither : (p q : Bool) → not (p || q) ≡ true → (p ≡ false) × (q ≡ false)
-      neither true q e = absurd (false≢true e)
-      neither false true e = absurd (false≢true e)
-      neither false false e = (refl, refl)
-
       go : (two : Bool) → every (λ n. not (cond two (pinTwice b n || nameThrice b n) (nameTwice b n))) 128 ≡ true → Few two
       go false e =
           let once : (n : List ℕ) → count (nameIs n) (used names) ≤ 1 = apart-once nameOf (used names) (sym (names-apart b keys) ∙ e) in
           record { nameFew = once; pinOnce = names-pins (used names) once }
       go true e =
-          let each : (n : ℕ) → n < 128 → (pinTwice b n ≡ false) × (nameThrice b n ≡ false) =
-          λ n l. neither (pinTwice b n) (nameThrice b n) (every-at (λ n. not (pinTwice b n || nameThrice b n)) 128 n e l) in
+          let parts : (every (λ n. not (pinTwice b n)) 128 && every (λ n. not (nameThrice b n)) 128) ≡ true = sym (every-neither (pinTwice b) (nameThrice b) 128) ∙ e in
           record {
-            nameFew = thrice-few (every-true (λ n. not (nameThrice b n)) 128 (λ n l. ap not (each n l .1)));
-            pinOnce = apart-pins (used names) (sym pins-distinct ∙ every-true (λ n. not (pinTwice b n)) 128 (λ n l. ap not (each n l .0)));
+            nameFew = thrice-few (and-right (every (λ n. not (pinTwice b n)) 128) _ parts);
+            pinOnce = apart-pins (used names) (sym pins-distinct ∙ and-left (every (λ n. not (pinTwice b n)) 128) _ parts);
           }
 
   pub few-distinct : Few (ofTwo b) → namesDistinct b ≡ true
@@ -247,7 +221,5 @@ module _ (b : List ℕ) (noKeyTwice : keysDistinct b ≡ true) (keyedNames : nam
       go : (two : Bool) → Few two → every (λ n. not (cond two (pinTwice b n || nameThrice b n) (nameTwice b n))) 128 ≡ true
       go false f = names-apart b keys ∙ once-apart nameOf (used names) (f .nameFew)
       go true f =
-          let pins : every (λ n. not (pinTwice b n)) 128 ≡ true = pins-distinct ∙ pins-apart (used names) (f .pinOnce) in
-          every-true (λ n. not (pinTwice b n || nameThrice b n)) 128 (λ n l.
-          let p : pinTwice b n ≡ false = not-true (pinTwice b n) (every-at (λ n. not (pinTwice b n)) 128 n pins l) in
-          rw (p, few-thrice (f .nameFew) n l))
+          every-neither (pinTwice b) (nameThrice b) 128
+          ∙ and-both _ _ (pins-distinct ∙ pins-apart (used names) (f .pinOnce)) (every-true (λ n. not (nameThrice b n)) 128 (λ n l. ap not (few-thrice (f .nameFew) n l)))

@@ -1,6 +1,6 @@
 -- The hashes of `specs/Hashes.antt`, word by word, and a slot's padded name. Assumes nothing.
 use mathlib.Core.Path.{_≡_, refl, sym, ap, ap₂, _∙_}
-use mathlib.Core.Bool.{true}
+use mathlib.Core.Bool.{Bool, true, false}
 use mathlib.Core.List.{List, _++_}
 use Prim.Native.Nat.{ℕ, suc, _+_, _*_, _-_, _/_, _%_, _<_}
 use native.Mathlib.Nat.{mod-lt, div-lt-iff-lt-mul}
@@ -15,8 +15,8 @@ use Rattle.octets.proofs.Parts.{part-length, part-add}
 use Rattle.octets.proofs.Equal.{zeros-are}
 use Rattle.octets.proofs.Search.{every-at}
 use Rattle.host_name.specs.Name.{wellFormed}
-use Rattle.pin_model.specs.Sound.{latestIn, nameSlot, isUsed, nameLength, nameIn, nameFormed, nameRight, nameShaped, namesShaped}
-use Rattle.pin_soundness.specs.Hashes.{withWord, markOf, wordsHash, padded, nameMark}
+use Rattle.pin_model.specs.Sound.{latestIn, nameSlot, isUsed, keyNumber, nameLength, nameIn, nameFormed, nameRight, nameShaped, namesShaped}
+use Rattle.pin_soundness.specs.Hashes.{withWord, markOf, wordsHash, padded, nameMark, pinMark}
 use Rattle.pin_soundness.proofs.Rules.{name-sized}
 
 pub hash-none : (p : List ℕ) → 0 ≡ wordsHash p (0 / 8)
@@ -47,6 +47,16 @@ module _ (s : List ℕ) (long : length s ≡ 272) (below : nameLength s < 256) (
   mark-end p h at e f g =
       ap markOf
       (f ∙ ap₂ wordsHash (e ∙ padded-is) (g ∙ ap (λ (m : ℕ). m / 8 + 1) (sym (name-sized s long below))))
+
+-- a name slot's mark, by the edition
+module _ {two : Bool} (s : List ℕ) {m : ℕ} (e : m ≡ nameMark (nameIn s)) where
+  pub by-name : two ≡ false → m ≡ pinMark two s
+  unfolding pinMark
+  by-name o = rw o e
+
+  pub by-pin : {k : ℕ} → two ≡ true → k ≡ keyNumber s → (m + 127 * k) % 8192 ≡ pinMark two s
+  unfolding pinMark
+  by-pin o f = rw o (ap₂ (λ (n j : ℕ). (n + 127 * j) % 8192) e f)
 
 -- a used slot of shaped names
 pub used-formed : (b : List ℕ) (n : ℕ) → namesShaped b ≡ true → n < 128 → isUsed (nameSlot b n) ≡ true → nameFormed (nameSlot b n) ≡ true

@@ -1,11 +1,13 @@
 -- A mark, a number below 8,192, for a key and for a name, by which doubles are sought. Assumes nothing.
 -- Only private functions cite it: a reader of the open contracts can skip it.
 use Prim.Native.Nat.{ℕ, zero, suc, _+_, _*_, _-_, _/_, _%_, _^_}
+use mathlib.Core.Bool.{Bool, cond}
 use mathlib.Core.List.{List, _++_}
 use lib.Bits.{bitXor}
 use lib.ListN.{length, replicate}
 use Rattle.octets.specs.Octets.{part}
 use Rattle.octets.specs.Words.{word}
+use Rattle.pin_model.specs.Sound.{keyNumber, nameIn}
 
 -- 64 bits rotated by 13 places
 unfoldable pub rotated : ℕ → ℕ
@@ -38,3 +40,7 @@ padded name = name ++ replicate (256 - length name) 0
 -- a name's mark, by the words that it stands in
 unfoldable pub nameMark : List ℕ → ℕ
 nameMark name = markOf (wordsHash (padded name) (length name / 8 + 1))
+
+-- a name slot's mark: by its name, and in edition two by the number of its key too
+unfoldable pub pinMark : Bool → List ℕ → ℕ
+pinMark two s = cond two ((nameMark (nameIn s) + 127 * keyNumber s) % 2 ^ 13) (nameMark (nameIn s))

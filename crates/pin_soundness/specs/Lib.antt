@@ -1,3 +1,4 @@
 pub mod Hashes
 pub mod Marked
+pub mod Pins
 pub mod SeenMarks

@@ -1,22 +1,11 @@
-// No key twice, and no name more often than its edition allows. Each used slot has a mark, a number below 8,192 that equal keys
-// and equal names share; only where a mark was seen before is the slot compared with all before it, and the edition looked at. So
-// the answer is the same whatever the marks are, and a table whose marks differ takes one pass.
-use crate::key_rules;
-use crate::repeats;
-use crate::seen_marks;
-use crate::seen_marks::SEEN_WORDS;
+// The mark of a slot: a number below 8,192 that equal keys, and equal names, share.
 use pin_table::slots;
-use pin_table::slots::KEY_SLOTS;
-use pin_table::slots::KeySlot;
-use pin_table::slots::NAME_SLOTS;
-use pin_table::slots::NameSlot;
 ghost use mathlib.Core.Path.{_≡_};
 ghost use mathlib.Core.Bool.{true};
 ghost use Prim.Native.Nat.{_<_};
 ghost use lib.ListN.{length};
-ghost use Rattle.pin_model.specs.Layout.{areaLength};
-ghost use Rattle.pin_model.specs.Sound.{keyIn, nameIn, nameFormed, keysDistinct, namesShaped, namesDistinct};
-ghost use Rattle.pin_soundness.specs.Hashes.{withWord, markOf, keyMark, nameMark};
+ghost use Rattle.pin_model.specs.Sound.{keyIn, nameIn, nameFormed};
+ghost use Rattle.pin_soundness.specs.Hashes.{withWord, markOf, keyMark, nameMark, pinMark};
 
 // A hash with one word more: it is rotated by 13 places first, which compiles to one instruction. 2251799813685248 is 2 to the
 // 51st.
@@ -40,7 +29,7 @@ fn mark_of(h: u64) -> usize
 }
 
 // By the key's first word and its last.
-fn key_mark(s: &[u8]) -> usize
+pub fn key_mark(s: &[u8]) -> usize
     requires { ⌜ length (now s) ≡ 72 ⌝ }
     ensures { λ r. ⌜ (r ≡ keyMark (keyIn (now (s .entry)))) × (r < 8192) ⌝ }
 {
@@ -51,7 +40,7 @@ fn key_mark(s: &[u8]) -> usize
 }
 
 // By the words that the name stands in. Zeros fill the last of them, so that equal names have equal words.
-fn name_mark(s: &[u8]) -> usize
+pub fn name_mark(s: &[u8]) -> usize
     requires { ⌜ (length (now s) ≡ 272) × (nameFormed (now s) ≡ true) ⌝ }
     ensures { λ r. ⌜ (r ≡ nameMark (nameIn (now (s .entry)))) × (r < 8192) ⌝ }
 {
@@ -66,50 +55,15 @@ fn name_mark(s: &[u8]) -> usize
     mark_of(h)
 }
 
-pub fn keys_distinct(area: &[u8]) -> bool
-    requires { ⌜ length (now area) ≡ areaLength ⌝ }
-    ensures { λ r. ⌜ r ≡ keysDistinct (now (area .entry)) ⌝ }
+// In edition two by the number of its key too, so that two records of a name have different marks.
+pub fn pin_mark(s: &[u8], two: bool) -> usize
+    requires { ⌜ (length (now s) ≡ 272) × (nameFormed (now s) ≡ true) ⌝ }
+    ensures { λ r. ⌜ (r ≡ pinMark two (now (s .entry))) × (r < 8192) ⌝ }
 {
-    let mut seen = [0u64; SEEN_WORDS];
-    let mut n = 0;
-    while n < KEY_SLOTS {
-        let k = n;
-        n += 1;
-        let s = slots::key_slot(area, KeySlot(k));
-        if !slots::is_used(s) {
-            continue;
-        }
-        let m = key_mark(s);
-        if !seen_marks::add(&mut seen, m) {
-            continue;
-        }
-        if key_rules::key_twice(area, KeySlot(k)) {
-            return false;
-        }
+    let m = name_mark(s);
+    if !two {
+        return m;
     }
-    true
-}
-
-pub fn names_distinct(area: &[u8]) -> bool
-    requires { ⌜ (length (now area) ≡ areaLength) × (namesShaped (now area) ≡ true) ⌝ }
-    ensures { λ r. ⌜ r ≡ namesDistinct (now (area .entry)) ⌝ }
-{
-    let mut seen = [0u64; SEEN_WORDS];
-    let mut n = 0;
-    while n < NAME_SLOTS {
-        let k = n;
-        n += 1;
-        let s = slots::name_slot(area, NameSlot(k));
-        if !slots::is_used(s) {
-            continue;
-        }
-        let m = name_mark(s);
-        if !seen_marks::add(&mut seen, m) {
-            continue;
-        }
-        if repeats::name_again(area, NameSlot(k)) {
-            return false;
-        }
-    }
-    true
+    let k = slots::key_number(s);
+    (m + 127 * k.0) % 8192
 }

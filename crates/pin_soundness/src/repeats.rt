@@ -1,4 +1,4 @@
-// Whether a name stands more often than its edition allows: once in edition one; twice, with different keys, in edition two.
+// Whether a name stands before in the table: once in edition one; with its key, or twice, in edition two.
 use pin_table::slots;
 use pin_table::slots::NAME_AT;
 use pin_table::slots::NameSlot;
@@ -6,7 +6,8 @@ ghost use mathlib.Core.Path.{_≡_};
 ghost use Prim.Native.Nat.{_<_};
 ghost use lib.ListN.{length};
 ghost use Rattle.pin_model.specs.Layout.{areaLength};
-ghost use Rattle.pin_model.specs.Sound.{sameName, nameTwice, samePin, pinTwice, nameThrice, nameAgain};
+ghost use Rattle.pin_model.specs.Sound.{ofTwo, sameName, nameTwice, samePin, pinTwice, nameThrice};
+ghost use Rattle.pin_soundness.specs.Pins.{pinAgain};
 
 // Whether two slots are used and have one name.
 fn same_name(s: &[u8], r: &[u8]) -> bool
@@ -76,7 +77,7 @@ fn pin_twice(area: &[u8], n: NameSlot) -> bool
 }
 
 // Whether two slots before this one have its name: one that has it, and one before that.
-fn name_thrice(area: &[u8], n: NameSlot) -> bool
+pub fn name_thrice(area: &[u8], n: NameSlot) -> bool
     requires { ⌜ (length (now area) ≡ areaLength) × (n .0 < 128) ⌝ }
     ensures { λ r. ⌜ r ≡ nameThrice (now (area .entry)) (n .0) ⌝ }
 {
@@ -97,16 +98,13 @@ fn name_thrice(area: &[u8], n: NameSlot) -> bool
     false
 }
 
-// Whether this slot is one too many of its name.
-pub fn name_again(area: &[u8], n: NameSlot) -> bool
+// Whether a slot before this one says what it says: its name, and in edition two its key.
+pub fn pin_again(area: &[u8], n: NameSlot) -> bool
     requires { ⌜ (length (now area) ≡ areaLength) × (n .0 < 128) ⌝ }
-    ensures { λ r. ⌜ r ≡ nameAgain (now (area .entry)) (n .0) ⌝ }
+    ensures { λ r. ⌜ r ≡ pinAgain (ofTwo (now (area .entry))) (now (area .entry)) (n .0) ⌝ }
 {
-    if !slots::is_two(area) {
-        return name_twice(area, n);
+    if slots::is_two(area) {
+        return pin_twice(area, n);
     }
-    if pin_twice(area, n) {
-        return true;
-    }
-    name_thrice(area, n)
+    name_twice(area, n)
 }

@@ -1,10 +1,10 @@
 // Whether an area is a sound pin table.
+use crate::distinct;
 use crate::key_rules;
 use crate::links;
-use crate::marks;
+use crate::name_rules;
 use pin_table::minutes;
 use pin_table::minutes::Minutes;
-use crate::name_rules;
 use pin_table::slots;
 use pin_table::slots::AREA_LENGTH;
 ghost use mathlib.Core.Path.{_≡_};
@@ -38,7 +38,7 @@ fn names_sound(area: &[u8]) -> bool
     if !name_rules::names_shaped(area) {
         return false;
     }
-    if !marks::names_distinct(area) {
+    if !distinct::names_distinct(area) {
         return false;
     }
     if !links::names_keyed(area) {
@@ -60,7 +60,7 @@ fn rules_hold(area: &[u8]) -> bool
     if !key_rules::keys_shaped(area) {
         return false;
     }
-    if !marks::keys_distinct(area) {
+    if !distinct::keys_distinct(area) {
         return false;
     }
     names_sound(area)

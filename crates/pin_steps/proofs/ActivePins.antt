@@ -11,6 +11,7 @@ use lib.ListN.{length, getD}
 use borrow.Author.Tests.{eqb-true}
 use Rattle.octets.specs.Octets.{any}
 use Rattle.octets.proofs.Tests.{or-cases, and-left}
+use Rattle.octets.proofs.Equal.{same-turned}
 use Rattle.tack_extension.specs.Extension.{tackLength}
 use Rattle.tack_extension.specs.Tack.{publicKey}
 use Rattle.pin_model.specs.Slots.{used}
@@ -25,7 +26,6 @@ use Rattle.pin_records.specs.declared.read.PinEnd.the-variants as pin-end
 use Rattle.pin_records.proofs.DistinctNames.{one-record}
 use Rattle.pin_records.proofs.Found.{FoundAt}
 use Rattle.pin_steps.specs.Steps.{activeFor, verdictBy}
-use Rattle.pin_steps.proofs.Tacks.{same-turned}
 use Rattle.pin_steps.proofs.OneRecord.{found-any}
 
 -- by the end that was read

@@ -8,6 +8,7 @@ use lib.Dec.{ltb}
 use lib.ListN.{getD}
 use Rattle.octets.specs.Octets.{same, any}
 use Rattle.octets.proofs.Tests.{is-false}
+use Rattle.octets.proofs.Equal.{same-turned}
 use Rattle.pin_model.specs.Slots.{used, freed}
 use Rattle.pin_model.specs.Table.{Table, holding, keyIs, pinnedTo}
 use Rattle.pin_model.specs.Layout.{keyAt, decode}
@@ -21,7 +22,7 @@ use Rattle.pin_records.specs.Find.{isFree}
 use Rattle.pin_records.proofs.HeldSlots.{holds-decode}
 use Rattle.pin_records.proofs.Found.{FoundAt, found-freed}
 use Rattle.pin_steps.specs.Steps.{breakBy}
-use Rattle.pin_steps.proofs.Tacks.{same-turned, with-keys, with-names}
+use Rattle.pin_steps.proofs.Tacks.{with-keys, with-names}
 
 module _ {A : Type 0} where
   -- slots freed by one test and then by another

@@ -1,14 +1,12 @@
--- What the steps share: comparing the other way round, an area's table put another way, a tack's key among the slots. Assumes nothing.
-use mathlib.Core.Path.{_≡_, sym, _∙_, ap, subst}
+-- What the steps share: an area's table put another way, a tack's key among the slots. Assumes nothing.
+use mathlib.Core.Path.{_≡_, _∙_, ap, subst}
 use mathlib.Core.Bool.{Bool, false}
 use mathlib.Core.List.{List}
 use mathlib.Core.Option.{Option}
 use Prim.Native.Nat.{ℕ}
 use native.Mathlib.Omega.{arith}
 use lib.ListN.{length}
-use Rattle.octets.specs.Octets.{same, any}
-use Rattle.octets.proofs.Tests.{both-ways}
-use Rattle.octets.proofs.Equal.{same-true, same-eq}
+use Rattle.octets.specs.Octets.{any}
 use Rattle.octets.proofs.Parts.{part-length}
 use Rattle.tack_extension.specs.Tack.{publicKey}
 use Rattle.pin_model.specs.Slots.{used}
@@ -18,11 +16,6 @@ use Rattle.pin_records.specs.Holds.{Holds}
 use Rattle.pin_records.specs.Find.{holds, firstSlot, keyFound}
 use Rattle.pin_records.specs.declared.find.FoundKey.the-variants as key-found
 use Rattle.pin_records.proofs.Found.{FoundAt, key-found-at, key-absent}
-
--- byte strings compared the other way round
-pub same-turned : (xs ys : List ℕ) → same xs ys ≡ same ys xs
-same-turned xs ys =
-    both-ways (same xs ys) (same ys xs) (λ e. same-eq ys xs (sym (same-true xs ys e))) (λ e. same-eq xs ys (sym (same-true ys xs e)))
 
 -- the keys, or the names, of a table that an area holds, put another way
 module _ {d : List ℕ} {two : Bool} {latest : ℕ} where

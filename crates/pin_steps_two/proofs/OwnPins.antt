@@ -30,9 +30,9 @@ use Rattle.pin_records.specs.declared.find.FoundName.the-variants as name-found
 use Rattle.pin_records.proofs.Placed.{Used, is-used, holds-used, first-passes, first-absent, changed-set}
 use Rattle.pin_records.proofs.HeldSlots.{holds-decode}
 use Rattle.pin_records.proofs.Found.{FreeAt, name-there, name-not-there}
+use Rattle.pin_tests_two.specs.Parts.{tacksBy}
 use Rattle.pin_steps.specs.Steps.{extendedAt, keyRoom, keysTaken, withKeys}
 use Rattle.pin_steps.proofs.Tacks.{with-names}
-use Rattle.pin_steps_two.specs.Parts.{tacksBy}
 
 -- slot n is the record of the name and the key
 pub record PinAt (name key : List ℕ) (names : List (Option NameRecord)) (n : ℕ) : Type 0 where

@@ -13,7 +13,7 @@ use Rattle.pin_model.specs.Calls as calls
 use Rattle.pin_model.proofs.SoundTwo.{Stage, removed-stage}
 use Rattle.pin_records.specs.Holds.{Holds, withoutUnnamed}
 use Rattle.pin_records.proofs.HeldSlots.{holds-decode}
-use Rattle.pin_steps_two.specs.Parts.{tacksBy, bothTacks}
+use Rattle.pin_tests_two.specs.Parts.{tacksBy, bothTacks}
 use Rattle.pin_steps_two.proofs.ShownTacks.{raisedAt-same}
 
 module _ (name : List ℕ) (clock : ℕ) (tacks : List Shown) (t : Table) (d : List ℕ) where

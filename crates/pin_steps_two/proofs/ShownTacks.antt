@@ -7,6 +7,7 @@ use Prim.Native.Nat.{ℕ}
 use native.Mathlib.Omega.{arith}
 use lib.ListN.{length}
 use Rattle.octets.specs.Octets.{same}
+use Rattle.octets.proofs.Equal.{same-turned}
 use Rattle.tack_extension.specs.Tack.{publicKey}
 use Rattle.tack_extension_two.specs.ExtensionTwo.{partsTwo, enablesFirst, enablesSecond}
 use Rattle.pin_model.specs.Slots.{used}
@@ -18,8 +19,8 @@ use Rattle.pin_model.proofs.Lists.{any-ext, any-append}
 use Rattle.pin_records.specs.Holds.{Holds, withLatest}
 use Rattle.pin_records.specs.Find.{holds, isFree}
 use Rattle.pin_records.proofs.HeldSlots.{holds-decode}
-use Rattle.pin_steps.proofs.Tacks.{same-turned}
-use Rattle.pin_steps_two.specs.Parts.{tacksBy, bothTacks, shownFor, enabledFor}
+use Rattle.pin_tests_two.specs.Parts.{tacksBy, bothTacks}
+use Rattle.pin_steps_two.specs.Shown.{shownFor, enabledFor}
 
 -- one tack
 pub shows-none : (tack : List ℕ) → length tack ≡ 0 → (x : Option NameRecord) → false ≡ holds (shownFor (shownIn true tack)) x

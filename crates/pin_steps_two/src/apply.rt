@@ -15,7 +15,7 @@ ghost use Rattle.pin_model.specs.Calls as calls;
 ghost use Rattle.pin_model.proofs.SoundTwo.{Stage};
 ghost use Rattle.pin_answers.specs.Numbers.{judgementAnswer};
 ghost use Rattle.pin_records.specs.Holds.{Stored};
-ghost use Rattle.pin_steps_two.specs.Parts.{tacksBy, TackParts};
+ghost use Rattle.pin_tests_two.specs.Parts.{tacksBy, TackParts};
 
 // From the verdict on, where floors are raised and latest is the clock. Contradicted, nothing more changes.
 fn settle(

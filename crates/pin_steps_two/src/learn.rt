@@ -14,7 +14,7 @@ ghost use Rattle.pin_model.specs.Layout.{decode};
 ghost use Rattle.pin_model.specs.JudgeTwo.{shownIn, hasOwn, wantsOwn, roomOf, makeOwn, learnEach, lacksAny};
 ghost use Rattle.pin_model.proofs.SoundTwo.{Stage};
 ghost use Rattle.pin_records.specs.Holds.{Holds, Stored};
-ghost use Rattle.pin_steps_two.specs.Parts.{tacksBy, TackParts};
+ghost use Rattle.pin_tests_two.specs.Parts.{tacksBy, TackParts};
 
 // A record for the name and the tack's key, which has none. The answer is 'no room', with which nothing changes.
 fn make_own(area: &mut [u8], name: &[u8], tack: &[u8], clock: Minutes) -> bool

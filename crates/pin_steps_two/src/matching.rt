@@ -12,7 +12,8 @@ ghost use Rattle.pin_model.specs.Layout.{decode};
 ghost use Rattle.pin_model.specs.JudgeTwo.{shownIn};
 ghost use Rattle.pin_records.specs.Holds.{Stored};
 ghost use Rattle.pin_records.specs.Find.{holds, isFree};
-ghost use Rattle.pin_steps_two.specs.Parts.{tacksBy, bothTacks, shownFor, enabledFor, TackParts};
+ghost use Rattle.pin_tests_two.specs.Parts.{tacksBy, bothTacks, TackParts};
+ghost use Rattle.pin_steps_two.specs.Shown.{shownFor, enabledFor};
 
 // One tack, and the record of a used name slot.
 fn shows(area: &[u8], n: NameSlot, tack: &[u8]) -> bool

@@ -16,7 +16,7 @@ ghost use Rattle.pin_model.specs.Layout.{decode};
 ghost use Rattle.pin_model.specs.JudgeTwo.{spent};
 ghost use Rattle.pin_records.specs.Holds.{Holds, Stored};
 ghost use Rattle.pin_records.specs.Find.{holds};
-ghost use Rattle.pin_steps_two.specs.Parts.{tacksBy, TackParts};
+ghost use Rattle.pin_tests_two.specs.Parts.{tacksBy, TackParts};
 
 // Whether the slot has such a record.
 fn is_spent(

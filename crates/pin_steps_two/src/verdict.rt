@@ -16,7 +16,8 @@ ghost use Rattle.pin_model.specs.Layout.{decode};
 ghost use Rattle.pin_model.specs.JudgeTwo.{activeOf, contradicted};
 ghost use Rattle.pin_records.specs.Holds.{Stored};
 ghost use Rattle.pin_records.specs.Find.{holds};
-ghost use Rattle.pin_steps_two.specs.Parts.{bothTacks, shownFor, TackParts};
+ghost use Rattle.pin_tests_two.specs.Parts.{bothTacks, TackParts};
+ghost use Rattle.pin_steps_two.specs.Shown.{shownFor};
 
 // Whether the slot has an active record of the name.
 fn holds_active(area: &[u8], n: NameSlot, name: &[u8], clock: Minutes) -> bool

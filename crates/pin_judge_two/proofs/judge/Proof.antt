@@ -1,7 +1,6 @@
 -- 10 and 11, 27; else the name that is handed on is the folded one, cut at 254 bytes.
 use mathlib.Core.Path.{sym, ap, _∙_}
-use mathlib.Core.List.{List, []}
-use Prim.Native.Nat.{ℕ}
+use mathlib.Core.List.{[]}
 use native.Mathlib.Omega.{arith}
 use lib.ListN.{length-take}
 use lib.Seq.{length-take-le}
@@ -11,12 +10,10 @@ use borrow.Author.Tests.{not-true, not-false}
 use Rattle.host_name.specs.Folding.{foldedName}
 use Rattle.host_name.proofs.Folded.{front, room}
 use Rattle.pin_model.specs.JudgeTwo.{connectionTwo}
-use Rattle.pin_model.specs.Calls.{judgeTwo, namedTwo, answer, areaAfter}
 use Rattle.pin_model.proofs.Rules.{rules-of}
 use Rattle.pin_model.proofs.Refusals.{area-facts}
-use Rattle.pin_model.proofs.LongNames.{cut-judge-two}
 use Rattle.pin_answers.specs.Numbers.{checkedNumber}
-use Rattle.pin_judge_two.proofs.PassingTwo.{refused-area, refused-edition}
+use Rattle.pin_judge_two.proofs.PassingTwo.{refused-area, refused-edition, uncut}
 use Rattle.pin_judge_two.proofs.judge.Statement.{statement}
 use Rattle.pin_judge_two.proofs.judge.Tie as tie
 
@@ -73,11 +70,8 @@ returns-3 c =
     let s = c .before .before .before .before .before .before .before .before .before .before .before .before .before .before .before .before .before .before .before in
     let whole = connectionTwo (s .args .clock) (now (s .args .name)) (s .args .extension-came) (now (s .args .extension)) (now (s .args .hash)) (s .args .handshake-finished) (s .args .first-is-point) (s .args .first-correct) (s .args .second-is-point) (s .args .second-correct) in
     let its = front (now (s .args .name)) (c .before .before .before .before .before .before .fold .ensures) in
-    let same = cut-judge-two whole (foldedName (now (s .args .name))) (now (s .args .area)) in
-    let w = c .before .before .judge-folded .ensures in (
-      w .0 ∙ ap (λ (name : List ℕ). answer (judgeTwo (namedTwo name whole)) (now (s .args .area))) its ∙ same .0,
-      w .1 ∙ ap (λ (name : List ℕ). areaAfter (judgeTwo (namedTwo name whole)) (now (s .args .area))) its ∙ same .1,
-    )
+    let w = c .before .before .judge-folded .ensures in
+    uncut whole (foldedName (now (s .args .name))) (now (s .args .area)) its (w .0) (w .1)
 
 pub judge-spec : {M : Type 1} → statement M
 judge-spec =

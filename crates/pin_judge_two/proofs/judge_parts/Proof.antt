@@ -1,12 +1,9 @@
 -- The tests' refusal, or the steps.
-use mathlib.Core.Path.{sym, ap, _∙_}
 use denote.Ref.{now}
 use borrow.Author.Needs.{needs}
 use Rattle.pin_model.specs.Layout.{encode, decode}
-use Rattle.pin_model.specs.Calls.{first}
-use Rattle.pin_answers.specs.Numbers.{checkedNumber}
-use Rattle.pin_steps_two.specs.Parts.{tacksBy}
-use Rattle.pin_judge_two.specs.TestsTwo.{partsTests, partsAnswer, partsTable}
+use Rattle.pin_tests_two.specs.Parts.{tacksBy}
+use Rattle.pin_judge_two.specs.StepsTwo.{partsAnswer, partsTable}
 use Rattle.pin_judge_two.proofs.PassingTwo.{in-order-stage, by-refused, by-granted}
 use Rattle.pin_judge_two.proofs.judge_parts.Statement.{statement}
 use Rattle.pin_judge_two.proofs.judge_parts.Tie as tie
@@ -24,8 +21,9 @@ returns : tie.Need-returns
 returns c =
     let s = c .before .before .before .before .before .before .before .before .before .before in
     let tacks = tacksBy (now (s .args .first)) (now (s .args .second)) (s .args .flags) in
-    by-refused (first (partsTests (s .args .clock .0) (now (s .args .hash)) (s .args .first-is-point) (s .args .first-correct) (s .args .second-is-point) (s .args .second-correct) (now (s .args .first)) (now (s .args .second)) (decode (now (s .args .area))))) (partsAnswer (now (s .args .name)) (s .args .clock .0) tacks (decode (now (s .args .area)))) (now (s .args .area)) (encode (partsTable (now (s .args .name)) (s .args .clock .0) tacks (decode (now (s .args .area))))) _
-    (sym (c .before .before .before .check-tacks .ensures) ∙ ap checkedNumber (c .before .refusal .given .1))
+    let t = decode (now (s .args .area)) in
+    by-refused (c .before .before .before .check-tacks .ensures) (partsAnswer (now (s .args .name)) (s .args .clock .0) tacks t)
+    (now (s .args .area)) (encode (partsTable (now (s .args .name)) (s .args .clock .0) tacks t)) (c .before .refusal .given .1)
 
 enum-told : tie.Need-enum-told
 enum-told c = search needs
@@ -42,9 +40,10 @@ returns-2 : tie.Need-returns-2
 returns-2 c =
     let s = c .before .before .before .before .before .before .before .before .before .before .before .before .before in
     let tacks = tacksBy (now (s .args .first)) (now (s .args .second)) (s .args .flags) in
-    let g = by-granted (first (partsTests (s .args .clock .0) (now (s .args .hash)) (s .args .first-is-point) (s .args .first-correct) (s .args .second-is-point) (s .args .second-correct) (now (s .args .first)) (now (s .args .second)) (decode (now (s .args .area))))) (partsAnswer (now (s .args .name)) (s .args .clock .0) tacks (decode (now (s .args .area)))) (now (s .args .area)) (encode (partsTable (now (s .args .name)) (s .args .clock .0) tacks (decode (now (s .args .area)))))
-    (sym (c .before .before .before .before .before .before .check-tacks .ensures) ∙ ap checkedNumber (c .before .before .before .before .enum-told .given .1)) in
-    (c .before .before .apply .ensures .0 ∙ g .0, c .before .before .apply .ensures .1 ∙ g .1)
+    let t = decode (now (s .args .area)) in
+    by-granted (c .before .before .before .before .before .before .check-tacks .ensures) (partsAnswer (now (s .args .name)) (s .args .clock .0) tacks t)
+    (now (s .args .area)) (encode (partsTable (now (s .args .name)) (s .args .clock .0) tacks t))
+    (c .before .before .before .before .enum-told .given .1) (c .before .before .apply .ensures .0) (c .before .before .apply .ensures .1)
 
 pub judge-parts-spec : {M : Type 1} → statement M
 judge-parts-spec =

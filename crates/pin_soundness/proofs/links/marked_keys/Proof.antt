@@ -7,7 +7,7 @@ use borrow.Author.Needs.{needs}
 use Rattle.pin_model.specs.Sound.{isUsed, keyNumber}
 use Rattle.pin_soundness.specs.Marked.{KeysMarked}
 use Rattle.pin_table.proofs.Rules.{no, yes}
-use Rattle.pin_soundness.proofs.Seen.{none-marked, marked-free, marked-used}
+use Rattle.pin_soundness.proofs.NamedKeys.{none-marked, marked-free, marked-used}
 use Rattle.pin_soundness.proofs.links.marked_keys.Statement.{statement}
 use Rattle.pin_soundness.proofs.links.marked_keys.Tie as tie
 

@@ -6,7 +6,7 @@ use borrow.Author.Needs.{needs}
 use Rattle.pin_model.specs.Layout.{decode}
 use Rattle.pin_model.specs.JudgeTwo.{lacksAny}
 use Rattle.pin_records.proofs.HeldSlots.{holds-decode, holds-stored}
-use Rattle.pin_steps_two.specs.Parts.{tacksBy}
+use Rattle.pin_tests_two.specs.Parts.{tacksBy}
 use Rattle.pin_steps_two.proofs.ShownTacks.{contradicted-same}
 use Rattle.pin_steps_two.proofs.Settled.{judged-contradicted, judged-passed, learned-from, dropped-stage}
 use Rattle.pin_steps_two.proofs.apply.settle.Statement.{statement}

@@ -4,7 +4,7 @@ use borrow.Author.Needs.{needs}
 use Rattle.pin_model.specs.Layout.{decode}
 use Rattle.pin_model.specs.JudgeTwo.{spent}
 use Rattle.pin_records.proofs.HeldSlots.{holds-stored}
-use Rattle.pin_steps_two.specs.Parts.{tacksBy}
+use Rattle.pin_tests_two.specs.Parts.{tacksBy}
 use Rattle.pin_steps_two.proofs.Settled.{keys-dropped}
 use Rattle.pin_steps_two.proofs.spent.drop_spent.Statement.{statement}
 use Rattle.pin_steps_two.proofs.spent.drop_spent.Tie as tie

@@ -9,7 +9,8 @@ use borrow.Author.Tests.{not-true, not-false}
 use Rattle.pin_model.specs.Table.{nameIs, active}
 use Rattle.pin_model.specs.Layout.{decode}
 use Rattle.pin_records.proofs.Placed.{holds-used, holds-neither}
-use Rattle.pin_steps_two.specs.Parts.{tacksBy, enabledFor}
+use Rattle.pin_tests_two.specs.Parts.{tacksBy}
+use Rattle.pin_steps_two.specs.Shown.{enabledFor}
 use Rattle.pin_steps_two.proofs.ShownTacks.{live-stays, ended-by}
 use Rattle.pin_steps_two.proofs.spent.is_spent.Statement.{statement}
 use Rattle.pin_steps_two.proofs.spent.is_spent.Tie as tie
