@@ -12,7 +12,7 @@ use Rattle.pin_model.specs.Calls.{Call, judge, judgeTwo, delete, start}
 use Rattle.pin_model.proofs.Lists.{struck-any}
 use Rattle.pin_model.proofs.SoundFacts.{SoundFacts}
 use Rattle.pin_model.proofs.TwoFacts.{ConnectionTwoFacts}
-use Rattle.pin_journal.specs.Journal.{Row, Entry, rowOf, rowKey, taught, unbroken, journal, stands, since, highest, taughtTwo, isVerdict, tacksOfCall, shownUnder}
+use Rattle.pin_journal.specs.Journal.{Row, Entry, rowOf, rowKey, entered, unbroken, journal, stands, since, highest, enteredTwo, isVerdict, tacksOfCall, shownUnder}
 use Rattle.pin_journal.proofs.Agreement.{Agrees, refloored}
 use Rattle.pin_journal.proofs.Steps.{without-agrees}
 use Rattle.pin_journal.proofs.Judging.{Learned, judged-learned}
@@ -40,18 +40,18 @@ highest-since k e es h =
     go false = refl
 
 -- the invariant after one more call, from its floors
-entered : (t : Table) (e : Entry) (es : List Entry) (floor : List ℕ → ℕ) → Agrees t (journal (e ∷ es)) floor
+invariant-after : (t : Table) (e : Entry) (es : List Entry) (floor : List ℕ → ℕ) → Agrees t (journal (e ∷ es)) floor
     → ((k : List ℕ) → stands k (journal (e ∷ es)) ≡ true
     → floor k ≡ max (shownBy k e) (cond (stands k (journal es)) (highest k (since k es)) 0))
     → Invariant t (e ∷ es)
-entered t e es floor agrees h =
+invariant-after t e es floor agrees h =
     refloored agrees (λ k. highest k (since k (e ∷ es))) (λ k stood. h k stood ∙ sym (highest-since k e es stood))
 
 -- a call that changes neither the table nor the rows, and showed nothing
 pub idle : (t : Table) (e : Entry) (es : List Entry) → Invariant t es → journal (e ∷ es) ≡ journal es → ((k : List ℕ) → shownBy k e ≡ 0)
     → Invariant t (e ∷ es)
 idle t e es invariant rows nothing =
-    entered t e es (λ k. highest k (since k es))
+    invariant-after t e es (λ k. highest k (since k es))
     (subst (λ (r : List Row). Agrees t r (λ k. highest k (since k es))) (sym rows) invariant)
     (λ k stood. rw (nothing k, sym (ap (stands k) rows) ∙ stood) (omega arith))
 
@@ -67,13 +67,13 @@ begin two =
 -- 'starting strikes all rows'
 pub start-invariant : (two : Bool) (es : List Entry) → Invariant (empty two) (entry (start two) 7 ∷ es)
 unfolding journal since
-start-invariant two es = entered (empty two) (entry (start two) 7) es (λ k. 0) (begin two) (λ k stood. absurd (false≢true stood))
+start-invariant two es = invariant-after (empty two) (entry (start two) 7) es (λ k. 0) (begin two) (λ k stood. absurd (false≢true stood))
 
 -- 'Deletion strikes the name's row'
 pub delete-invariant : (name : List ℕ) (t : Table) (es : List Entry) → Invariant t es → Invariant (without name t) (entry (delete name) 3 ∷ es)
 unfolding journal
 delete-invariant name t es invariant =
-    entered (without name t) (entry (delete name) 3) es (λ k. highest k (since k es)) (without-agrees name invariant)
+    invariant-after (without name t) (entry (delete name) 3) es (λ k. highest k (since k es)) (without-agrees name invariant)
     (λ k stood. rw (struck-any (rowKey k) (rowOf name) (journal es) stood) (omega arith))
 
 -- 'Judging with a verdict', in either edition
@@ -82,7 +82,7 @@ module _ (call : Call) (t after : Table) (es : List Entry) (n : ℕ) (verdict : 
       → Learned (tacksOfCall call) (journal es) (λ k. highest k (since k es)) after rowsAfter → Invariant after (entry call n ∷ es)
   learned-invariant written l =
       let rows : journal (entry call n ∷ es) ≡ rowsAfter = written ∙ ap (λ (b : Bool). cond b rowsAfter (journal es)) verdict in
-      entered after (entry call n) es (l .floorAfter)
+      invariant-after after (entry call n) es (l .floorAfter)
       (subst (λ (r : List Row). Agrees after r (l .floorAfter)) (sym rows) (l .agrees))
       (λ k stood.
       l .highest k (sym (ap (stands k) rows) ∙ stood)
@@ -92,12 +92,12 @@ pub judge-invariant : (c : Connection) (t : Table) (es : List Entry) (n : ℕ) �
     → t .two ≡ false → t .latest ≤ c .clock → c .clock ≤ clockLimit → Invariant (judged c t) (entry (judge c) n ∷ es)
 unfolding journal
 judge-invariant c t es n verdict invariant facts one inOrder inLimit =
-    learned-invariant (judge c) t (judged c t) es n verdict (unbroken c (taught c (tackShown c) (journal es))) refl
+    learned-invariant (judge c) t (judged c t) es n verdict (unbroken c (entered c (tackShown c) (journal es))) refl
     (judged-learned c t (journal es) (λ k. highest k (since k es)) invariant facts one inOrder inLimit)
 
 pub judge-two-invariant : (c : ConnectionTwo) (t : Table) (es : List Entry) (n : ℕ) → isVerdict n ≡ true → contradicted (c .name) (c .clock) (tacksShown c) (raisedTwo c t) ≡ eqb n 2
     → Invariant t es → SoundFacts t → ConnectionTwoFacts c t → Invariant (judgedTwo c t) (entry (judgeTwo c) n ∷ es)
 unfolding journal
 judge-two-invariant c t es n verdict its invariant facts passed =
-    learned-invariant (judgeTwo c) t (judgedTwo c t) es n verdict (taughtTwo c n (journal es)) refl
+    learned-invariant (judgeTwo c) t (judgedTwo c t) es n verdict (enteredTwo c n (journal es)) refl
     (judged-two-learned c t (journal es) (λ k. highest k (since k es)) invariant facts passed n its)

@@ -14,13 +14,13 @@ use Rattle.tack_extension.specs.Tack.{publicKey, minGeneration}
 use Rattle.pin_model.specs.Slots.{count, used, hasFree, placed, apart, struck, rewritten}
 use Rattle.pin_model.specs.Table.{clockLimit, NameRecord, Table, holding, nameIs, pinIs, active, keyRecorded, withoutAll}
 use Rattle.pin_model.specs.Judge.{raise, madeFor, keyedFor}
-use Rattle.pin_model.specs.JudgeTwo.{ConnectionTwo, Shown, tacksShown, keyShown, keyEnabled, raiseEach, raisedAt, raisedTwo, activeOf, contradicted, spent, hasOwn, roomOf, extendOwn, makeOwn, learnOwn, learnEach, learnedIn, judgedTwo}
+use Rattle.pin_model.specs.JudgeTwo.{ConnectionTwo, Shown, tacksShown, keyShown, keyEnabled, raiseEach, raisedAt, raisedTwo, activeOf, contradicted, unmatched, hasOwn, roomOf, extendOwn, makeOwn, learnOwn, learnEach, learnedIn, judgedTwo}
 use Rattle.pin_model.proofs.Lists.{bit, any-ext, any-struck}
 use Rattle.pin_model.proofs.Slots.{alike-placed}
 use Rattle.pin_model.proofs.SoundFacts.{SoundFacts}
 use Rattle.pin_model.proofs.TwoFacts.{ConnectionTwoFacts}
 use Rattle.pin_model.proofs.SoundTwo.{Stage, own-stage, removed-stage, raised-stage}
-use Rattle.pin_journal.specs.Journal.{Row, rowOf, rowKey, live, seenAt, isFull, rowFor, spentRow, ownRow, writeOwn, taughtOwn, taughtEach, taughtTwo, stands, shownUnder}
+use Rattle.pin_journal.specs.Journal.{Row, rowOf, rowKey, live, seenAt, isFull, rowFor, unmatchedRow, ownRow, writeOwn, enteredOwn, enteredEach, enteredTwo, stands, shownUnder}
 use Rattle.pin_journal.specs.Demand3.{contradictsTwo}
 use Rattle.pin_journal.proofs.Sealed.{sealed, live-sealed}
 use Rattle.pin_journal.proofs.Agreement.{Agrees, any-row, settled, refloored}
@@ -101,7 +101,7 @@ module _ (name : List ℕ) (clock : ℕ) (s : Shown) {t : Table} {rows : List Ro
       go false false e room r full f false o = agrees
 
   own-agrees : (s .enabled ≡ true → stands key rows ≡ false → floor key ≡ minGeneration (s .tack))
-      → Agrees (learnOwn name clock s t) (taughtOwn name clock s rows) floor
+      → Agrees (learnOwn name clock s t) (enteredOwn name clock s rows) floor
   own-agrees new = go (s .enabled) refl (hasOwn name (s .tack) t) refl (any (ownRow name (s .tack)) rows) own-rows
     where
       go : (enabled : Bool) → s .enabled ≡ enabled → (own : Bool) → hasOwn name (s .tack) t ≡ own → (ownRows : Bool) → own ≡ ownRows
@@ -114,7 +114,7 @@ module _ (name : List ℕ) (clock : ℕ) (s : Shown) {t : Table} {rows : List Ro
       go true e false o false p = made-agrees o (new e)
 
   -- no key goes
-  own-stands : (k : List ℕ) → stands k rows ≡ true → stands k (taughtOwn name clock s rows) ≡ true
+  own-stands : (k : List ℕ) → stands k rows ≡ true → stands k (enteredOwn name clock s rows) ≡ true
   own-stands k e = go (s .enabled) (any (ownRow name (s .tack)) rows) (ltb (count (rowOf name) rows) 2 && not (isFull key rows))
     where
       go : (enabled own write : Bool)
@@ -139,11 +139,11 @@ foretold-later floor rows after (s ∷ tacks) h f =
 
 each-agrees : (name : List ℕ) (clock : ℕ) (formed : wellFormed name ≡ true) (tacks : List Shown) {t : Table} {rows : List Row} {floor : List ℕ → ℕ}
     → Agrees t rows floor → Stage clock t → Foretold floor rows tacks
-    → Agrees (learnEach name clock tacks t) (taughtEach name clock tacks rows) floor
+    → Agrees (learnEach name clock tacks t) (enteredEach name clock tacks rows) floor
 each-agrees name clock formed [] agrees stage foretold = agrees
 each-agrees name clock formed (s ∷ tacks) {t} {rows} {floor} agrees stage foretold =
     each-agrees name clock formed tacks (own-agrees name clock s agrees (stage .facts) (foretold .0)) (own-stage name clock formed s stage)
-    (foretold-later floor rows (taughtOwn name clock s rows) tacks (own-stands name clock s agrees (stage .facts)) (foretold .1))
+    (foretold-later floor rows (enteredOwn name clock s rows) tacks (own-stands name clock s agrees (stage .facts)) (foretold .1))
 
 -- 'two tacks with one key' is refused: under each key its own tack alone shows something
 shown-none : (k : List ℕ) (tacks : List Shown) → any (λ r. same (publicKey (r .tack)) k) tacks ≡ false → shownUnder k (tacksOf tacks) ≡ 0
@@ -202,20 +202,20 @@ module _ (name : List ℕ) (clock : ℕ) (tacks : List Shown) (t : Table) (rows 
   floorNow = floorAfterwards (tacksOf tacks) rows floor
 
   abbrev goes : NameRecord → Bool
-  goes = spent name clock tacks
+  goes = unmatched name clock tacks
 
   abbrev goesRow : Row → Bool
-  goesRow = spentRow name clock tacks
+  goesRow = unmatchedRow name clock tacks
 
   raised-now : Agrees raised rows floorNow
   raised-now = refloored (settled (raised-agrees tacks agrees) clock) floorNow (λ k e. rw e)
 
-  spent-same : (r : Row) → goes (sealed r) ≡ goesRow r
-  spent-same r = ap (λ (b : Bool). rowOf name r && (not b && not (keyEnabled tacks (r .key)))) (sym (live-sealed clock r))
+  unmatched-same : (r : Row) → goes (sealed r) ≡ goesRow r
+  unmatched-same r = ap (λ (b : Bool). rowOf name r && (not b && not (keyEnabled tacks (r .key)))) (sym (live-sealed clock r))
 
   removed : Agrees (withoutAll goes raised) (struck goesRow rows) floorNow
   removed =
-      subst (λ (f : Row → Bool). Agrees (withoutAll goes raised) (struck f rows) floorNow) (fun-ext spent-same) (removed-agrees goes raised-now)
+      subst (λ (f : Row → Bool). Agrees (withoutAll goes raised) (struck f rows) floorNow) (fun-ext unmatched-same) (removed-agrees goes raised-now)
 
   -- a record with an enabled tack does not go
   kept-key : (k : List ℕ) → keyEnabled tacks k ≡ true → stands k (struck goesRow rows) ≡ stands k rows
@@ -232,7 +232,7 @@ module _ (name : List ℕ) (clock : ℕ) (tacks : List Shown) (t : Table) (rows 
       go r true d = rw (ap (keyEnabled tacks) (same-true (r .key) k d) ∙ e) (bits (rowOf name r) (not (live clock r)))
       go r false d = and-false (not (goesRow r))
 
-  learned : Agrees (learnEach name clock tacks (withoutAll goes raised)) (taughtEach name clock tacks (struck goesRow rows)) floorNow
+  learned : Agrees (learnEach name clock tacks (withoutAll goes raised)) (enteredEach name clock tacks (struck goesRow rows)) floorNow
   learned =
       each-agrees name clock formed tacks removed (removed-stage name clock formed goes (raised-stage name clock tacks facts two inOrder inLimit))
       (foretold-shown tacks tacks rows (struck goesRow rows) floor (λ k e. refl) distinct (λ k e d. sym (kept-key k e) ∙ d))
@@ -240,13 +240,13 @@ module _ (name : List ℕ) (clock : ℕ) (tacks : List Shown) (t : Table) (rows 
   -- `isContradicted` is what the call's number says
   pub learned-two : (isContradicted : Bool) → contradicted name clock tacks raised ≡ isContradicted
       → Learned (tacksOf tacks) rows floor (learnedIn name clock tacks raised)
-      (cond isContradicted rows (taughtEach name clock tacks (struck goesRow rows)))
+      (cond isContradicted rows (enteredEach name clock tacks (struck goesRow rows)))
   learned-two isContradicted e =
       record { floorAfter = floorNow; agrees = go (contradicted name clock tacks raised) isContradicted e; highest = λ k d. refl }
     where
       go : (b d : Bool) → b ≡ d
           → Agrees (cond b raised (learnEach name clock tacks (withoutAll goes raised)))
-          (cond d rows (taughtEach name clock tacks (struck goesRow rows))) floorNow
+          (cond d rows (enteredEach name clock tacks (struck goesRow rows))) floorNow
       go true true p = raised-now
       go true false p = absurd (true≢false p)
       go false true p = absurd (false≢true p)
@@ -255,7 +255,7 @@ module _ (name : List ℕ) (clock : ℕ) (tacks : List Shown) (t : Table) (rows 
 -- `n` is the call's number
 pub judged-two-learned : (c : ConnectionTwo) (t : Table) (rows : List Row) (floor : List ℕ → ℕ) → Agrees t rows floor → SoundFacts t
     → ConnectionTwoFacts c t → (n : ℕ) → contradicted (c .name) (c .clock) (tacksShown c) (raisedTwo c t) ≡ eqb n 2
-    → Learned (tacksOf (tacksShown c)) rows floor (judgedTwo c t) (taughtTwo c n rows)
+    → Learned (tacksOf (tacksShown c)) rows floor (judgedTwo c t) (enteredTwo c n rows)
 unfolding judgedTwo
 judged-two-learned c t rows floor agrees facts passed n e =
     learned-two (c .name) (c .clock) (tacksShown c) t rows floor agrees facts (passed .ofEditionTwo) (passed .clockInOrder) (passed .clockInLimit)

@@ -125,8 +125,8 @@ verdictOf name clock tacks t =
     cond (contradicted name clock tacks t) 2 (cond (any (activeOf name clock) (used (t .names))) 1 0)
 
 -- 'inactive records of the name with no matching enabled tack go, as do keys left without names'
-abbrev pub spent : List ℕ → ℕ → List Shown → NameRecord → Bool
-spent name clock tacks r = nameIs name r && (not (active clock r) && not (keyEnabled tacks (r .key)))
+abbrev pub unmatched : List ℕ → ℕ → List Shown → NameRecord → Bool
+unmatched name clock tacks r = nameIs name r && (not (active clock r) && not (keyEnabled tacks (r .key)))
 
 -- the tack's own record
 abbrev pub hasOwn : List ℕ → List ℕ → Table → Bool
@@ -171,11 +171,11 @@ lacksAny name clock (s ∷ tacks) t = lacksOwn name s t || lacksAny name clock t
 -- 'Unless contradicted'; t has its floors raised and latest set
 abbrev pub learnedIn : List ℕ → ℕ → List Shown → Table → Table
 learnedIn name clock tacks t =
-    cond (contradicted name clock tacks t) t (learnEach name clock tacks (withoutAll (spent name clock tacks) t))
+    cond (contradicted name clock tacks t) t (learnEach name clock tacks (withoutAll (unmatched name clock tacks) t))
 
 abbrev pub lacksIn : List ℕ → ℕ → List Shown → Table → Bool
 lacksIn name clock tacks t =
-    not (contradicted name clock tacks t) && lacksAny name clock tacks (withoutAll (spent name clock tacks) t)
+    not (contradicted name clock tacks t) && lacksAny name clock tacks (withoutAll (unmatched name clock tacks) t)
 
 -- the call: its verdict, the table that it leaves, and "no room"
 abbrev pub raisedTwo : ConnectionTwo → Table → Table

@@ -1,7 +1,7 @@
 // The steps together.
 use crate::learn;
 use crate::raise;
-use crate::spent;
+use crate::removal;
 use crate::verdict;
 use pin_answers::Judgement;
 use pin_answers::Verdict;
@@ -36,7 +36,7 @@ fn settle(
         };
     }
     let pinned = verdict::is_pinned(area, name, clock);
-    spent::drop_spent(area, name, first, second, flags, clock);
+    removal::drop_unmatched(area, name, first, second, flags, clock);
     let no_room = learn::learn_each(area, name, first, second, flags, clock);
     if pinned {
         return Judgement::Judged {

@@ -4,5 +4,5 @@ pub mod apply;
 pub mod learn;
 pub mod matching;
 pub mod raise;
-pub mod spent;
+pub mod removal;
 pub mod verdict;

@@ -26,7 +26,7 @@ public-key-requires c κs =
 same-64-at-requires : tie.Need-same-64-at-requires
 same-64-at-requires c κs =
     let s = c .before .before .before .before .before in (
-      omega (arith, tack-length _ (s .pre .ofFirst) (c .before .before .if1 .left)),
+      omega (arith, tack-length _ (s .pre .ofFirst) (c .before .before .if1 .left), tack-length _ (s .pre .ofSecond) (c .before .if2 .left)),
       ap length (c .public-key .ensures) ∙ key-length (now (s .args .second)) (tack-length _ (s .pre .ofSecond) (c .before .if2 .left)),
     )
 
