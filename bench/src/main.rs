@@ -3,7 +3,7 @@
 //! * `bench [REPEATS]`: the soundness check and 20,000 calls of the library, 9 repeats unless said.
 //! * `bench nights [REPEATS [CALLS]]`: nights of recorded calls replayed, 5 repeats of 1,000,000 calls unless said, and of a
 //!   tenth of them on a full table.
-//! * `bench two [REPEATS]`: 20,000 calls of edition two on a full table, 9 repeats unless said.
+//! * `bench two [REPEATS]`: calls of edition two on two full tables, one that an adversary chose, 9 repeats unless said.
 //! * `bench versions FOLDER [REPEATS]`: recorded calls on six tables, from one without pins to one that an adversary chose, by the
 //!   `replay` and the `lent_replay` of an earlier version, which stand in the folder, by those of this one, and by the second
 //!   program, 9 repeats unless said. `bench/versions` builds and runs it.
