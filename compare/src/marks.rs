@@ -1,8 +1,9 @@
 //! Names and keys that share a mark, as an adversary would choose them.
 //!
 //! The soundness check of the proved library gives each used name and each used key a mark, a number below 8,192, and compares a
-//! slot with all before it where its mark was seen before. No function of the library tells marks, so they are computed here
-//! again. Should the library get other marks, these names and keys stay good, but share a mark no more.
+//! slot with all before it where its mark was seen before; in edition two where it was seen twice before, or once with the same
+//! key. No function of the library tells marks, so they are computed here again. Should the library get other marks, these names
+//! and keys stay good, but share a mark no more.
 
 use crate::area::Key;
 use std::iter;

@@ -231,7 +231,7 @@ disabledMatches = rowTwo (afterTwo movePinned) (oneTack 2199 tackA neither) (pla
 abbrev pub disabledAtEnd : RowTwo
 disabledAtEnd = rowTwo (afterTwo movePinned) (oneTack 2200 tackA neither) (plain 0) (tableTwo 2200 [] [])
 
--- Refusals, each of which leaves the table as it was.
+-- Refusals, each of which leaves the table as it was; one call beside them passes.
 -- 'another bit set, or bit 1 with one tack, is 16'
 abbrev pub bitWithoutTack : RowTwo
 bitWithoutTack = rowTwo [] (oneTack 1000 tackA theSecond) (plain 16) (empty true)

@@ -13,14 +13,14 @@ use Rattle.host_name.specs.Name.{wellFormed}
 use Rattle.tack_extension.specs.Tack.{publicKey, minGeneration}
 use Rattle.pin_model.specs.Slots.{count, used, hasFree, placed, apart, struck, rewritten}
 use Rattle.pin_model.specs.Table.{clockLimit, NameRecord, Table, holding, nameIs, pinIs, active, keyRecorded, withoutAll}
-use Rattle.pin_model.specs.Judge.{raise, madeFor, keyedFor}
-use Rattle.pin_model.specs.JudgeTwo.{ConnectionTwo, Shown, tacksShown, keyShown, keyEnabled, raiseEach, raisedAt, raisedTwo, activeOf, contradicted, unmatched, hasOwn, roomOf, extendOwn, makeOwn, learnOwn, learnEach, learnedIn, judgedTwo}
+use Rattle.pin_model.specs.Judge.{raise, madeFor, keyedFor, activeOf}
+use Rattle.pin_model.specs.JudgeTwo.{ConnectionTwo, Shown, tacksShown, keyShown, keyEnabled, raiseEach, raisedAt, raisedTwo, contradicted, isRemoved, hasOwn, roomOf, extendOwn, makeOwn, learnOwn, learnEach, learnedIn, judgedTwo}
 use Rattle.pin_model.proofs.Lists.{bit, any-ext, any-struck}
 use Rattle.pin_model.proofs.Slots.{alike-placed}
 use Rattle.pin_model.proofs.SoundFacts.{SoundFacts}
 use Rattle.pin_model.proofs.TwoFacts.{ConnectionTwoFacts}
 use Rattle.pin_model.proofs.SoundTwo.{Stage, own-stage, removed-stage, raised-stage}
-use Rattle.pin_journal.specs.Journal.{Row, rowOf, rowKey, live, seenAt, isFull, rowFor, unmatchedRow, ownRow, writeOwn, enteredOwn, enteredEach, enteredTwo, stands, shownUnder}
+use Rattle.pin_journal.specs.Journal.{Row, rowOf, rowKey, live, seenAt, isFull, rowFor, rowRemoved, ownRow, writeOwn, enteredOwn, enteredEach, enteredTwo, stands, shownUnder}
 use Rattle.pin_journal.specs.Demand3.{contradictsTwo}
 use Rattle.pin_journal.proofs.Sealed.{sealed, live-sealed}
 use Rattle.pin_journal.proofs.Agreement.{Agrees, any-row, settled, refloored}
@@ -202,20 +202,20 @@ module _ (name : List ℕ) (clock : ℕ) (tacks : List Shown) (t : Table) (rows 
   floorNow = floorAfterwards (tacksOf tacks) rows floor
 
   abbrev goes : NameRecord → Bool
-  goes = unmatched name clock tacks
+  goes = isRemoved name clock tacks
 
   abbrev goesRow : Row → Bool
-  goesRow = unmatchedRow name clock tacks
+  goesRow = rowRemoved name clock tacks
 
   raised-now : Agrees raised rows floorNow
   raised-now = refloored (settled (raised-agrees tacks agrees) clock) floorNow (λ k e. rw e)
 
-  unmatched-same : (r : Row) → goes (sealed r) ≡ goesRow r
-  unmatched-same r = ap (λ (b : Bool). rowOf name r && (not b && not (keyEnabled tacks (r .key)))) (sym (live-sealed clock r))
+  removed-same : (r : Row) → goes (sealed r) ≡ goesRow r
+  removed-same r = ap (λ (b : Bool). rowOf name r && (not b && not (keyEnabled tacks (r .key)))) (sym (live-sealed clock r))
 
   removed : Agrees (withoutAll goes raised) (struck goesRow rows) floorNow
   removed =
-      subst (λ (f : Row → Bool). Agrees (withoutAll goes raised) (struck f rows) floorNow) (fun-ext unmatched-same) (removed-agrees goes raised-now)
+      subst (λ (f : Row → Bool). Agrees (withoutAll goes raised) (struck f rows) floorNow) (fun-ext removed-same) (removed-agrees goes raised-now)
 
   -- a record with an enabled tack does not go
   kept-key : (k : List ℕ) → keyEnabled tacks k ≡ true → stands k (struck goesRow rows) ≡ stands k rows

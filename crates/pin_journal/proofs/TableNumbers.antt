@@ -13,8 +13,8 @@ use Rattle.octets.proofs.Tests.{and-left, and-right}
 use Rattle.tack_extension_two.specs.ExtensionTwo.{partsOrNone}
 use Rattle.pin_model.specs.Slots.{used}
 use Rattle.pin_model.specs.Table.{KeyRecord, NameRecord, Table, nameIs, nameRecorded}
-use Rattle.pin_model.specs.Judge.{Connection, tackShown, shows, activePin, revoked, judged, verdict}
-use Rattle.pin_model.specs.JudgeTwo.{ConnectionTwo, partsTwoOf, tacksShown, partTests, tacksTests, raisedTwo, activeOf, contradicted, verdictTwo}
+use Rattle.pin_model.specs.Judge.{Connection, tackShown, shows, activeOf, revoked, judged, verdict}
+use Rattle.pin_model.specs.JudgeTwo.{ConnectionTwo, partsTwoOf, tacksShown, partTests, tacksTests, raisedTwo, contradicted, verdictTwo}
 use Rattle.pin_model.specs.Calls.{Call, judge, judgeTwo, delete, inspect, start, Answer, laterTests, granted, answerBy, floorOf, inspectedWith, inspectedIn, inspectedSecond}
 use Rattle.pin_model.proofs.First.{first-number}
 use Rattle.pin_model.proofs.Lists.{cond-either}
@@ -24,7 +24,7 @@ use Rattle.pin_journal.specs.Journal.{isVerdict}
 -- 'Verdicts are 0, 1 and 2'; no refusal of a connection is one
 pub verdict-number : (c : Connection) (t : Table) → isVerdict (verdict c t) ≡ true
 unfolding verdict
-verdict-number c t = go (any (activePin c) (used (t .names))) (any (λ r. activePin c r && shows (tackShown c) (r .key)) (used (t .names)))
+verdict-number c t = go (any (activeOf (c .name) (c .clock)) (used (t .names))) (any (λ r. activeOf (c .name) (c .clock) r && shows (tackShown c) (r .key)) (used (t .names)))
   where
     go : (a b : Bool) → isVerdict (cond a (cond b 1 2) 0) ≡ true
     go true true = refl

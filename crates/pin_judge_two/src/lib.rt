@@ -155,8 +155,8 @@ fn judge_folded(
     )
 }
 
-// Judges one finished connection of edition two: 10 to 27, or a verdict and whether there was no room for a record that it
-// wanted. Each of the two tacks has its own answers.
+// Judges one finished connection of edition two: 10 to 16, 18 to 24 or 27, or a verdict and whether there was no room for a record
+// that it wanted. Each of the two tacks has its own answers.
 pub fn judge(
     area: &mut [u8],
     clock: u64,

@@ -12,7 +12,7 @@ use Rattle.tack_extension.specs.Tack.{publicKey}
 use Rattle.pin_model.specs.Slots.{count, used, hasFree, placed}
 use Rattle.pin_model.specs.Table.{clockLimit, NameRecord, Table, holding, nameIs, pinIs, keyRecorded, withoutAll, soundTable}
 use Rattle.pin_model.specs.Judge.{raise, madeFor}
-use Rattle.pin_model.specs.JudgeTwo.{ConnectionTwo, Shown, tacksShown, raiseEach, raisedAt, raisedTwo, contradicted, unmatched, hasOwn, wantsOwn, roomOf, extendOwn, makeOwn, learnOwn, learnEach, learnedIn, judgedTwo}
+use Rattle.pin_model.specs.JudgeTwo.{ConnectionTwo, Shown, tacksShown, raiseEach, raisedAt, raisedTwo, contradicted, isRemoved, hasOwn, wantsOwn, roomOf, extendOwn, makeOwn, learnOwn, learnEach, learnedIn, judgedTwo}
 use Rattle.pin_model.proofs.Lists.{cond-either}
 use Rattle.pin_model.proofs.Slots.{alike-placed, length-placed}
 use Rattle.pin_model.proofs.SoundFacts.{SoundFacts, sound-facts, facts-sound}
@@ -97,9 +97,9 @@ module _ (name : List ℕ) (clock : ℕ) (tacks : List Shown) {t : Table} (facts
   pub learned-stage : wellFormed name ≡ true → Stage clock (learnedIn name clock tacks (raisedAt clock tacks t))
   learned-stage formed =
       cond-either (Stage clock) (contradicted name clock tacks (raisedAt clock tacks t)) (raisedAt clock tacks t)
-      (learnEach name clock tacks (withoutAll (unmatched name clock tacks) (raisedAt clock tacks t)))
+      (learnEach name clock tacks (withoutAll (isRemoved name clock tacks) (raisedAt clock tacks t)))
       raised-stage
-      (each-stage name clock formed tacks (removed-stage name clock formed (unmatched name clock tacks) raised-stage))
+      (each-stage name clock formed tacks (removed-stage name clock formed (isRemoved name clock tacks) raised-stage))
 
 pub judgedTwo-keeps : (c : ConnectionTwo) (t : Table) → soundTable t ≡ true → t .two ≡ true → wellFormed (c .name) ≡ true → t .latest ≤ c .clock
     → c .clock ≤ clockLimit → soundTable (judgedTwo c t) ≡ true

@@ -11,7 +11,7 @@ use Rattle.tack_extension_two.specs.ExtensionTwo.{PartsTwo, partsTwo, enablesFi
 use Rattle.tack_extension.specs.Tack.{publicKey, minGeneration, generation, expiration, targetHash}
 use Rattle.pin_model.specs.Slots.{count, used, hasFree, changed, placed, apart}
 use Rattle.pin_model.specs.Table.{clockLimit, NameRecord, Table, holding, settledAt, nameIs, pinIs, active, keyRecorded, recordsOfAName, withoutAll}
-use Rattle.pin_model.specs.Judge.{isNone, revoked, raise, extendedTo, madeFor, keyedFor}
+use Rattle.pin_model.specs.Judge.{isNone, revoked, raise, extendedTo, madeFor, keyedFor, activeOf}
 
 -- 'The caller supplies': one finished connection, with 'its own answers' for each of the two tacks
 pub record ConnectionTwo : Type 0 where
@@ -114,9 +114,6 @@ abbrev pub raisedAt : ℕ → List Shown → Table → Table
 raisedAt clock tacks t = settledAt clock (raiseEach tacks t)
 
 -- 'the verdict falls: contradicted if any active record has no matching tack, else confirmed if any is active, else unpinned'
-abbrev pub activeOf : List ℕ → ℕ → NameRecord → Bool
-activeOf name clock r = nameIs name r && active clock r
-
 abbrev pub contradicted : List ℕ → ℕ → List Shown → Table → Bool
 contradicted name clock tacks t = any (λ r. activeOf name clock r && not (keyShown tacks (r .key))) (used (t .names))
 
@@ -125,8 +122,8 @@ verdictOf name clock tacks t =
     cond (contradicted name clock tacks t) 2 (cond (any (activeOf name clock) (used (t .names))) 1 0)
 
 -- 'inactive records of the name with no matching enabled tack go, as do keys left without names'
-abbrev pub unmatched : List ℕ → ℕ → List Shown → NameRecord → Bool
-unmatched name clock tacks r = nameIs name r && (not (active clock r) && not (keyEnabled tacks (r .key)))
+abbrev pub isRemoved : List ℕ → ℕ → List Shown → NameRecord → Bool
+isRemoved name clock tacks r = nameIs name r && (not (active clock r) && not (keyEnabled tacks (r .key)))
 
 -- the tack's own record
 abbrev pub hasOwn : List ℕ → List ℕ → Table → Bool
@@ -171,11 +168,11 @@ lacksAny name clock (s ∷ tacks) t = lacksOwn name s t || lacksAny name clock t
 -- 'Unless contradicted'; t has its floors raised and latest set
 abbrev pub learnedIn : List ℕ → ℕ → List Shown → Table → Table
 learnedIn name clock tacks t =
-    cond (contradicted name clock tacks t) t (learnEach name clock tacks (withoutAll (unmatched name clock tacks) t))
+    cond (contradicted name clock tacks t) t (learnEach name clock tacks (withoutAll (isRemoved name clock tacks) t))
 
 abbrev pub lacksIn : List ℕ → ℕ → List Shown → Table → Bool
 lacksIn name clock tacks t =
-    not (contradicted name clock tacks t) && lacksAny name clock tacks (withoutAll (unmatched name clock tacks) t)
+    not (contradicted name clock tacks t) && lacksAny name clock tacks (withoutAll (isRemoved name clock tacks) t)
 
 -- the call: its verdict, the table that it leaves, and "no room"
 abbrev pub raisedTwo : ConnectionTwo → Table → Table

@@ -15,7 +15,7 @@ use Rattle.octets.proofs.Search.{every-neither, some-true, some-false}
 use Rattle.pin_model.specs.Sound.{ofTwo, keySlot, nameSlot, isUsed, keyIn, keyNumber, nameIn, sameKey, keyTwice, sameName, nameTwice, samePin, pinTwice, nameThrice, nameAgain, namesDistinct}
 use Rattle.pin_soundness.specs.Hashes.{keyMark, nameMark, pinMark}
 use Rattle.pin_soundness.specs.SeenMarks.{isSeen, withSeen}
-use Rattle.pin_soundness.specs.Pins.{pinAgain, pinsDistinct, namesFew}
+use Rattle.pin_soundness.specs.Pins.{pinAgain, pinsDistinct, noNameThrice}
 use Rattle.pin_soundness.proofs.Seen.{MarksSeen, none-seen, passed-over, passed-marked, unseen}
 
 -- the marks of the used key slots, and of the used name slots by pin and by name
@@ -137,8 +137,8 @@ module _ (b : List ℕ) {seen again : List ℕ} {n : ℕ} (a : FewSeen b seen ag
       (and-right (sameName (nameSlot b n) (nameSlot b j)) _ t, e ∙ ap nameMark (f .1)))
 
 -- 'no name too often' in its two parts
-distinct-parts : (b : List ℕ) → namesDistinct b ≡ cond (ofTwo b) (pinsDistinct b && namesFew b) (pinsDistinct b)
-unfolding pinsDistinct pinAgain namesFew namesDistinct nameAgain
+distinct-parts : (b : List ℕ) → namesDistinct b ≡ cond (ofTwo b) (pinsDistinct b && noNameThrice b) (pinsDistinct b)
+unfolding pinsDistinct pinAgain noNameThrice namesDistinct nameAgain
 distinct-parts b = go (ofTwo b)
   where
     go : (two : Bool)
@@ -153,12 +153,12 @@ module _ (b : List ℕ) where
   pub pin-double : pinsDistinct b ≡ false → namesDistinct b ≡ false
   pin-double e = distinct-parts b ∙ go (ofTwo b)
     where
-      go : (two : Bool) → cond two (pinsDistinct b && namesFew b) (pinsDistinct b) ≡ false
+      go : (two : Bool) → cond two (pinsDistinct b && noNameThrice b) (pinsDistinct b) ≡ false
       go false = e
       go true = rw e
 
   pub once-distinct : ofTwo b ≡ false → pinsDistinct b ≡ true → namesDistinct b ≡ true
   once-distinct o e = distinct-parts b ∙ rw o e
 
-  pub parts-distinct : ofTwo b ≡ true → pinsDistinct b ≡ true → namesFew b ≡ namesDistinct b
+  pub parts-distinct : ofTwo b ≡ true → pinsDistinct b ≡ true → noNameThrice b ≡ namesDistinct b
   parts-distinct o e = sym (distinct-parts b ∙ rw (o, e))

@@ -14,5 +14,5 @@ unfoldable pub pinsDistinct : List ℕ → Bool
 pinsDistinct b = every (λ n. not (pinAgain (ofTwo b) b n)) 128
 
 -- no name has three records
-unfoldable pub namesFew : List ℕ → Bool
-namesFew b = every (λ n. not (nameThrice b n)) 128
+unfoldable pub noNameThrice : List ℕ → Bool
+noNameThrice b = every (λ n. not (nameThrice b n)) 128

@@ -15,7 +15,7 @@ ghost use mathlib.Core.Bool.{true};
 ghost use lib.ListN.{length};
 ghost use Rattle.pin_model.specs.Layout.{areaLength};
 ghost use Rattle.pin_model.specs.Sound.{keysDistinct, namesShaped, namesDistinct};
-ghost use Rattle.pin_soundness.specs.Pins.{pinsDistinct, namesFew};
+ghost use Rattle.pin_soundness.specs.Pins.{pinsDistinct, noNameThrice};
 
 pub fn keys_distinct(area: &[u8]) -> bool
     requires { ⌜ length (now area) ≡ areaLength ⌝ }
@@ -68,9 +68,9 @@ fn pins_distinct(area: &[u8]) -> bool
 }
 
 // No name three times: only a mark that was seen twice before can be a third record's.
-fn names_few(area: &[u8]) -> bool
+fn no_name_thrice(area: &[u8]) -> bool
     requires { ⌜ (length (now area) ≡ areaLength) × (namesShaped (now area) ≡ true) ⌝ }
-    ensures { λ r. ⌜ r ≡ namesFew (now (area .entry)) ⌝ }
+    ensures { λ r. ⌜ r ≡ noNameThrice (now (area .entry)) ⌝ }
 {
     let mut seen = [0u64; SEEN_WORDS];
     let mut again = [0u64; SEEN_WORDS];
@@ -106,5 +106,5 @@ pub fn names_distinct(area: &[u8]) -> bool
     if !slots::is_two(area) {
         return true;
     }
-    names_few(area)
+    no_name_thrice(area)
 }

@@ -8,7 +8,8 @@ use Rattle.host_name.specs.Name.{wellFormed}
 use Rattle.pin_model.specs.Slots.{used, freed}
 use Rattle.pin_model.specs.Table.{NameRecord, Table, holding, withoutAll}
 use Rattle.pin_model.specs.Layout.{encode, decode}
-use Rattle.pin_model.specs.JudgeTwo.{Shown, activeOf, raisedAt, contradicted, verdictOf, unmatched, learnEach, lacksAny, learnedIn, lacksIn}
+use Rattle.pin_model.specs.JudgeTwo.{Shown, raisedAt, contradicted, verdictOf, isRemoved, learnEach, lacksAny, learnedIn, lacksIn}
+use Rattle.pin_model.specs.Judge.{activeOf}
 use Rattle.pin_model.specs.Calls as calls
 use Rattle.pin_model.proofs.SoundTwo.{Stage, removed-stage}
 use Rattle.pin_records.specs.Holds.{Holds, withoutUnnamed}
@@ -18,7 +19,7 @@ use Rattle.pin_steps_two.proofs.ShownTacks.{raisedAt-same}
 
 module _ (name : List ℕ) (clock : ℕ) (tacks : List Shown) (t : Table) (d : List ℕ) where
   abbrev left : Table
-  left = withoutAll (unmatched name clock tacks) t
+  left = withoutAll (isRemoved name clock tacks) t
 
   abbrev pub Judged : ℕ → Bool → Type 0
   Judged verdict lacks =

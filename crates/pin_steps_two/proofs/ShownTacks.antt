@@ -13,8 +13,8 @@ use Rattle.tack_extension_two.specs.ExtensionTwo.{partsTwo, enablesFirst, enabl
 use Rattle.pin_model.specs.Slots.{used}
 use Rattle.pin_model.specs.Table.{NameRecord, Table, pinnedTo, settledAt}
 use Rattle.pin_model.specs.Layout.{decode}
-use Rattle.pin_model.specs.Judge.{raise}
-use Rattle.pin_model.specs.JudgeTwo.{Shown, shownIn, tacksIn, keyShown, activeOf, contradicted, raiseEach, raisedAt}
+use Rattle.pin_model.specs.Judge.{raise, activeOf}
+use Rattle.pin_model.specs.JudgeTwo.{Shown, shownIn, tacksIn, keyShown, contradicted, raiseEach, raisedAt}
 use Rattle.pin_model.proofs.Lists.{any-ext, any-append}
 use Rattle.pin_records.specs.Holds.{Holds, withLatest}
 use Rattle.pin_records.specs.Find.{holds, isFree}

@@ -18,7 +18,7 @@ ghost use Rattle.pin_records.specs.Holds.{Stored};
 ghost use Rattle.pin_tests_two.specs.Parts.{tacksBy, TackParts};
 
 // From the verdict on, where floors are raised and latest is the clock. Contradicted, nothing more changes.
-fn settle(
+fn from_verdict(
     area: &mut [u8],
     name: &[u8],
     first: &[u8],
@@ -36,7 +36,7 @@ fn settle(
         };
     }
     let pinned = verdict::is_pinned(area, name, clock);
-    removal::drop_unmatched(area, name, first, second, flags, clock);
+    removal::remove_records(area, name, first, second, flags, clock);
     let no_room = learn::learn_each(area, name, first, second, flags, clock);
     if pinned {
         return Judgement::Judged {
@@ -63,5 +63,5 @@ pub fn apply(
     ensures { λ r. ⌜ (judgementAnswer r ≡ calls.judgement (verdictOf (now (name .entry)) (clock .0) (tacksBy (now (first .entry)) (now (second .entry)) flags) (raisedAt (clock .0) (tacksBy (now (first .entry)) (now (second .entry)) flags) (decode (now (area .entry))))) (lacksIn (now (name .entry)) (clock .0) (tacksBy (now (first .entry)) (now (second .entry)) flags) (raisedAt (clock .0) (tacksBy (now (first .entry)) (now (second .entry)) flags) (decode (now (area .entry)))))) × (now (area .exit) ≡ encode (learnedIn (now (name .entry)) (clock .0) (tacksBy (now (first .entry)) (now (second .entry)) flags) (raisedAt (clock .0) (tacksBy (now (first .entry)) (now (second .entry)) flags) (decode (now (area .entry)))))) ⌝ }
 {
     raise::raise_floors(area, first, second, clock);
-    settle(area, name, first, second, flags, clock)
+    from_verdict(area, name, first, second, flags, clock)
 }

@@ -30,7 +30,7 @@ fn one_key(first: &[u8], second: &[u8]) -> bool
     octets::same_64_at(first, 0, fields::public_key(second))
 }
 
-// 18, 19, 23, 20 and 21 of one tack, with its own answers. It expires at the clock, not behind it.
+// 18, 19, 23, 20 and 21 of one tack, with its own answers. It has expired already where expiration is the clock.
 fn check_tack(
     clock: Minutes,
     tack: &[u8],

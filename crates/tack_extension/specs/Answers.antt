@@ -1,4 +1,5 @@
--- What the reader and the writers answer, by document 01, 'Extension bytes' and 'What each number says'. Assumes nothing.
+-- What the reader and the writers answer, by document 01, 'Extension bytes' and 'What each number says', and the alerts of document
+-- 02, Q-3. Assumes nothing.
 use Prim.Native.Nat.{ℕ}
 use mathlib.Core.Bool.{Bool, cond, _&&_, _||_}
 use mathlib.Core.List.{List, [], _∷_}

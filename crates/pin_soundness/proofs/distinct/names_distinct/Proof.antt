@@ -18,11 +18,11 @@ is-two-requires c κs = search needs
 returns-2 : tie.Need-returns-2
 returns-2 c = sym (once-distinct _ (no (c .before .is-two .ensures) (c .if2 .taken)) (yes (c .before .before .before .pins-distinct .ensures) (c .before .before .if1 .left)))
 
-names-few-requires : tie.Need-names-few-requires
-names-few-requires c κs = search needs
+no-name-thrice-requires : tie.Need-no-name-thrice-requires
+no-name-thrice-requires c κs = search needs
 
 returns-3 : tie.Need-returns-3
-returns-3 c = c .names-few .ensures ∙ parts-distinct _ (yes (c .before .before .is-two .ensures) (c .before .if2 .left)) (yes (c .before .before .before .before .pins-distinct .ensures) (c .before .before .before .if1 .left))
+returns-3 c = c .no-name-thrice .ensures ∙ parts-distinct _ (yes (c .before .before .is-two .ensures) (c .before .if2 .left)) (yes (c .before .before .before .before .pins-distinct .ensures) (c .before .before .before .if1 .left))
 
 pub names-distinct-spec : {M : Type 1} → statement M
 names-distinct-spec =
@@ -32,5 +32,5 @@ names-distinct-spec =
     returns
     is-two-requires
     returns-2
-    names-few-requires
+    no-name-thrice-requires
     returns-3)

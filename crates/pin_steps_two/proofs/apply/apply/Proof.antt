@@ -11,8 +11,8 @@ use Rattle.pin_steps_two.proofs.apply.apply.Tie as tie
 raise-floors-requires : tie.Need-raise-floors-requires
 raise-floors-requires c κs = search needs
 
-settle-requires : tie.Need-settle-requires
-settle-requires c κs =
+from-verdict-requires : tie.Need-from-verdict-requires
+from-verdict-requires c κs =
     let s = c .before .before .before .before .before .before .before .before .before in
     let h = c .before .before .before .raise-floors .ensures in
     (holds-stored h, raised-as (now (s .args .first)) (now (s .args .second)) (s .args .flags) (s .args .clock .0) (decode (now (s .args .area))) (Stage (s .args .clock .0)) h (s .pre .1), s .pre .2, s .pre .3)
@@ -23,9 +23,9 @@ same-length c = search needs
 returns : tie.Need-returns
 returns c =
     let s = c .before .before .before .before .before .before .before .before .before .before .before .before in
-    judged-from (now (s .args .first)) (now (s .args .second)) (s .args .flags) (s .args .clock .0) (decode (now (s .args .area))) (now (s .args .name)) (c .before .before .before .before .before .before .raise-floors .ensures) (c .before .before .settle .ensures .0) (c .before .before .settle .ensures .1)
+    judged-from (now (s .args .first)) (now (s .args .second)) (s .args .flags) (s .args .clock .0) (decode (now (s .args .area))) (now (s .args .name)) (c .before .before .before .before .before .before .raise-floors .ensures) (c .before .before .from-verdict .ensures .0) (c .before .before .from-verdict .ensures .1)
 
 pub apply-spec : {M : Type 1} → statement M
 apply-spec =
     tie.close
-    (tie.spec raise-floors-requires settle-requires same-length returns)
+    (tie.spec raise-floors-requires from-verdict-requires same-length returns)

@@ -7,7 +7,7 @@ use lib.ListN.{getD}
 use borrow.Author.Needs.{needs}
 use borrow.Author.Tests.{not-true, not-false}
 use Rattle.pin_model.specs.Layout.{decode}
-use Rattle.pin_model.specs.JudgeTwo.{activeOf}
+use Rattle.pin_model.specs.Judge.{activeOf}
 use Rattle.pin_records.proofs.Placed.{holds-used, holds-both, holds-neither}
 use Rattle.pin_tests_two.specs.Parts.{bothTacks}
 use Rattle.pin_steps_two.specs.Shown.{shownFor}

@@ -9,7 +9,7 @@ use lib.ListN.{getD}
 use borrow.Author.Needs.{needs}
 use borrow.Author.Count.{below-more, below-none}
 use Rattle.pin_model.specs.Layout.{decode}
-use Rattle.pin_model.specs.JudgeTwo.{activeOf}
+use Rattle.pin_model.specs.Judge.{activeOf}
 use Rattle.pin_tests_two.specs.Parts.{bothTacks}
 use Rattle.pin_steps_two.specs.Shown.{shownFor}
 use Rattle.pin_model.proofs.Places.{any-at, any-none}

@@ -2,12 +2,12 @@
 use denote.Ref.{now}
 use borrow.Author.Needs.{needs}
 use Rattle.pin_model.specs.Layout.{decode}
-use Rattle.pin_model.specs.JudgeTwo.{unmatched}
+use Rattle.pin_model.specs.JudgeTwo.{isRemoved}
 use Rattle.pin_records.proofs.HeldSlots.{holds-stored}
 use Rattle.pin_tests_two.specs.Parts.{tacksBy}
 use Rattle.pin_steps_two.proofs.Settled.{keys-dropped}
-use Rattle.pin_steps_two.proofs.removal.drop_unmatched.Statement.{statement}
-use Rattle.pin_steps_two.proofs.removal.drop_unmatched.Tie as tie
+use Rattle.pin_steps_two.proofs.removal.remove_records.Statement.{statement}
+use Rattle.pin_steps_two.proofs.removal.remove_records.Tie as tie
 
 drop-names-requires : tie.Need-drop-names-requires
 drop-names-requires c κs = search needs
@@ -21,10 +21,10 @@ same-length c = search needs
 returns : tie.Need-returns
 returns c =
     let s = c .before .before .before .before .before .before .before .before .before .before .before .before in
-    keys-dropped (unmatched (now (s .args .name)) (s .args .clock .0) (tacksBy (now (s .args .first)) (now (s .args .second)) (s .args .flags))) (decode (now (s .args .area)))
+    keys-dropped (isRemoved (now (s .args .name)) (s .args .clock .0) (tacksBy (now (s .args .first)) (now (s .args .second)) (s .args .flags))) (decode (now (s .args .area)))
     (c .before .before .before .before .before .before .drop-names .ensures) (c .before .before .drop-unnamed .ensures)
 
-pub drop-unmatched-spec : {M : Type 1} → statement M
-drop-unmatched-spec =
+pub remove-records-spec : {M : Type 1} → statement M
+remove-records-spec =
     tie.close
     (tie.spec drop-names-requires drop-unnamed-requires same-length returns)

@@ -12,8 +12,8 @@ use Rattle.pin_records.proofs.Placed.{holds-used, holds-neither}
 use Rattle.pin_tests_two.specs.Parts.{tacksBy}
 use Rattle.pin_steps_two.specs.Shown.{enabledFor}
 use Rattle.pin_steps_two.proofs.ShownTacks.{live-stays, ended-by}
-use Rattle.pin_steps_two.proofs.removal.is_unmatched.Statement.{statement}
-use Rattle.pin_steps_two.proofs.removal.is_unmatched.Tie as tie
+use Rattle.pin_steps_two.proofs.removal.is_removed.Statement.{statement}
+use Rattle.pin_steps_two.proofs.removal.is_removed.Tie as tie
 
 holds-name-requires : tie.Need-holds-name-requires
 holds-name-requires c κs = search needs
@@ -47,7 +47,7 @@ returns-3 c =
     ∙ ended-by (nameIs (now (s .args .name))) (active (s .args .clock .0)) (enabledFor (tacksBy (now (s .args .first)) (now (s .args .second)) (s .args .flags)))
     (getD (decode (now (s .args .area)) .names) (s .args .n .0) none) (sym (c .before .before .before .before .holds-name .ensures) ∙ not-false _ (c .before .before .before .if1 .left)) (sym (c .before .before .is-active .ensures) ∙ c .before .if2 .left)
 
-pub is-unmatched-spec : {M : Type 1} → statement M
-is-unmatched-spec =
+pub is-removed-spec : {M : Type 1} → statement M
+is-removed-spec =
     tie.close
     (tie.spec holds-name-requires returns is-active-requires returns-2 is-enabled-requires returns-3)

@@ -9,11 +9,11 @@ use Rattle.pin_model.specs.Sound.{nameSlot, isUsed, nameIn, nameFormed}
 use Rattle.octets.proofs.Search.{every-true, every-false}
 use Rattle.pin_table.proofs.Rules.{no, yes}
 use Rattle.pin_soundness.specs.Hashes.{nameMark}
-use Rattle.pin_soundness.specs.Pins.{namesFew}
+use Rattle.pin_soundness.specs.Pins.{noNameThrice}
 use Rattle.pin_soundness.proofs.Hashing.{used-formed}
 use Rattle.pin_soundness.proofs.Doubles.{FewSeen, few-none, few-free, few-first, few-second, few-more}
-use Rattle.pin_soundness.proofs.distinct.names_few.Statement.{statement}
-use Rattle.pin_soundness.proofs.distinct.names_few.Tie as tie
+use Rattle.pin_soundness.proofs.distinct.no_name_thrice.Statement.{statement}
+use Rattle.pin_soundness.proofs.distinct.no_name_thrice.Tie as tie
 
 abbrev Inv-loop : tie.InvT-loop
 Inv-loop area seen₀ again₀ n₀ seen again n = (n ≤ 128) × FewSeen area seen again n
@@ -76,7 +76,7 @@ name-thrice-requires : tie.Need-name-thrice-requires Inv-loop μ-loop
 name-thrice-requires c κs = search needs
 
 returns : tie.Need-returns Inv-loop μ-loop
-unfolding namesFew
+unfolding noNameThrice
 returns c = sym (every-false _ _ _ (c .before .before .before .before .before .before .before .before .before .before .before .before .loop-test .taken) (ap not (sym (c .before .name-thrice .ensures) ∙ c .if4 .taken)))
 
 loop-less-4 : tie.Need-loop-less-4 Inv-loop μ-loop
@@ -89,11 +89,11 @@ loop-again-4 c =
     (omega arith, few-more _ (c .before .before .before .before .before .before .before .before .before .before .before .before .before .loop .inv .1) its (mark .1) (c .before .before .before .before .before .before .add .ensures .1) (c .before .before .before .add2 .ensures .1) (sym (c .before .name-thrice .ensures) ∙ c .if4 .left))
 
 returns-2 : tie.Need-returns-2 Inv-loop μ-loop
-unfolding namesFew
+unfolding noNameThrice
 returns-2 c = sym (every-true _ _ (λ j l. ap not (c .before .loop .inv .1 .few j (omega arith))))
 
-pub names-few-spec : {M : Type 1} → statement M
-names-few-spec =
+pub no-name-thrice-spec : {M : Type 1} → statement M
+no-name-thrice-spec =
     tie.close
     (tie.spec
     Inv-loop

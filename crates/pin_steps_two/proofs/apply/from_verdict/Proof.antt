@@ -9,8 +9,8 @@ use Rattle.pin_records.proofs.HeldSlots.{holds-decode, holds-stored}
 use Rattle.pin_tests_two.specs.Parts.{tacksBy}
 use Rattle.pin_steps_two.proofs.ShownTacks.{contradicted-same}
 use Rattle.pin_steps_two.proofs.Settled.{judged-contradicted, judged-passed, learned-from, dropped-stage}
-use Rattle.pin_steps_two.proofs.apply.settle.Statement.{statement}
-use Rattle.pin_steps_two.proofs.apply.settle.Tie as tie
+use Rattle.pin_steps_two.proofs.apply.from_verdict.Statement.{statement}
+use Rattle.pin_steps_two.proofs.apply.from_verdict.Tie as tie
 
 is-contradicted-requires : tie.Need-is-contradicted-requires
 is-contradicted-requires c κs = search needs
@@ -27,13 +27,13 @@ returns c =
 is-pinned-requires : tie.Need-is-pinned-requires
 is-pinned-requires c κs = search needs
 
-drop-unmatched-requires : tie.Need-drop-unmatched-requires
-drop-unmatched-requires c κs = search needs
+remove-records-requires : tie.Need-remove-records-requires
+remove-records-requires c κs = search needs
 
 learn-each-requires : tie.Need-learn-each-requires
 learn-each-requires c κs =
     let s = c .before .before .before .before .before .before .before .before .before .before .before .before .before .before in
-    let h = c .before .before .before .drop-unmatched .ensures in
+    let h = c .before .before .before .remove-records .ensures in
     (holds-stored h, dropped-stage (now (s .args .name)) (s .pre .3) _ h (s .pre .1), s .pre .2, s .pre .3)
 
 same-length-2 : tie.Need-same-length-2
@@ -45,8 +45,8 @@ returns-2 c =
     let i = c .before .before .before .before .before .before .before .before .before .before .before in
     judged-passed (now (s .args .name)) (s .args .clock .0) (tacksBy (now (s .args .first)) (now (s .args .second)) (s .args .flags)) (decode (now (s .args .area))) _ true
     (sym (contradicted-same (now (s .args .first)) (now (s .args .second)) (s .args .flags) (now (s .args .name)) (s .args .clock .0) (decode (now (s .args .area)))) ∙ sym (i .before .is-contradicted .ensures) ∙ i .if1 .left) (sym (c .before .before .before .before .before .before .before .before .before .is-pinned .ensures) ∙ c .if2 .taken)
-    (c .before .before .before .learn-each .ensures .0 ∙ ap (lacksAny (now (s .args .name)) (s .args .clock .0) (tacksBy (now (s .args .first)) (now (s .args .second)) (s .args .flags))) (holds-decode (c .before .before .before .before .before .before .before .drop-unmatched .ensures)))
-    (learned-from (now (s .args .name)) (s .args .clock .0) (tacksBy (now (s .args .first)) (now (s .args .second)) (s .args .flags)) (c .before .before .before .before .before .before .before .drop-unmatched .ensures) (c .before .before .before .learn-each .ensures .1))
+    (c .before .before .before .learn-each .ensures .0 ∙ ap (lacksAny (now (s .args .name)) (s .args .clock .0) (tacksBy (now (s .args .first)) (now (s .args .second)) (s .args .flags))) (holds-decode (c .before .before .before .before .before .before .before .remove-records .ensures)))
+    (learned-from (now (s .args .name)) (s .args .clock .0) (tacksBy (now (s .args .first)) (now (s .args .second)) (s .args .flags)) (c .before .before .before .before .before .before .before .remove-records .ensures) (c .before .before .before .learn-each .ensures .1))
 
 same-length-3 : tie.Need-same-length-3
 same-length-3 c = search needs
@@ -57,10 +57,10 @@ returns-3 c =
     let i = c .before .before .before .before .before .before .before .before .before .before .before in
     judged-passed (now (s .args .name)) (s .args .clock .0) (tacksBy (now (s .args .first)) (now (s .args .second)) (s .args .flags)) (decode (now (s .args .area))) _ false
     (sym (contradicted-same (now (s .args .first)) (now (s .args .second)) (s .args .flags) (now (s .args .name)) (s .args .clock .0) (decode (now (s .args .area)))) ∙ sym (i .before .is-contradicted .ensures) ∙ i .if1 .left) (sym (c .before .before .before .before .before .before .before .before .before .is-pinned .ensures) ∙ c .if2 .left)
-    (c .before .before .before .learn-each .ensures .0 ∙ ap (lacksAny (now (s .args .name)) (s .args .clock .0) (tacksBy (now (s .args .first)) (now (s .args .second)) (s .args .flags))) (holds-decode (c .before .before .before .before .before .before .before .drop-unmatched .ensures)))
-    (learned-from (now (s .args .name)) (s .args .clock .0) (tacksBy (now (s .args .first)) (now (s .args .second)) (s .args .flags)) (c .before .before .before .before .before .before .before .drop-unmatched .ensures) (c .before .before .before .learn-each .ensures .1))
+    (c .before .before .before .learn-each .ensures .0 ∙ ap (lacksAny (now (s .args .name)) (s .args .clock .0) (tacksBy (now (s .args .first)) (now (s .args .second)) (s .args .flags))) (holds-decode (c .before .before .before .before .before .before .before .remove-records .ensures)))
+    (learned-from (now (s .args .name)) (s .args .clock .0) (tacksBy (now (s .args .first)) (now (s .args .second)) (s .args .flags)) (c .before .before .before .before .before .before .before .remove-records .ensures) (c .before .before .before .learn-each .ensures .1))
 
-pub settle-spec : {M : Type 1} → statement M
-settle-spec =
+pub from-verdict-spec : {M : Type 1} → statement M
+from-verdict-spec =
     tie.close
-    (tie.spec is-contradicted-requires same-length returns is-pinned-requires drop-unmatched-requires learn-each-requires same-length-2 returns-2 same-length-3 returns-3)
+    (tie.spec is-contradicted-requires same-length returns is-pinned-requires remove-records-requires learn-each-requires same-length-2 returns-2 same-length-3 returns-3)
