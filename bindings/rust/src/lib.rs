@@ -1,7 +1,7 @@
 //! The proved pin store for TLS gateways, in safe Rust.
 //!
 //! The work is done by `libtack.a`, whose every function is proved to meet its contract. This crate adds the field's names,
-//! lifetimes and error types, and nothing of its own: each function makes one call of the C interface.
+//! lifetimes and error types to calls of the C interface, and reads a table's edition off its byte 4.
 //!
 //! * [`extension`]: the TACK extension of edition one (May 2012 draft) read and written.
 //! * [`extension_two`]: the same of edition two, which holds one or two tacks.

@@ -3,9 +3,9 @@
 /// What the table says of a connection.
 #[derive(Debug, Clone, Copy, PartialEq, Eq, Hash)]
 pub enum Verdict {
-    /// 0: the name has no active pin.
+    /// 0: the name has no active pin. In edition two it had none when the verdict fell, and the call may have activated one.
     Unpinned,
-    /// 1: the name has an active pin, in edition two perhaps a second, and the server showed the key of each.
+    /// 1: the name has an active pin, in edition two perhaps a second active one, and the server showed the key of each.
     Confirmed,
     /// 2: the name has an active pin whose key the server did not show.
     Contradicted,

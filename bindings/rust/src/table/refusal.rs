@@ -88,7 +88,7 @@ impl Refusal {
 
     /// The TLS alert that goes with it in judging by this edition, or 0 for none.
     ///
-    /// A refusal that depends on the edition comes only from judging by the table's own, so
+    /// A refusal whose alert depends on the edition comes only from judging by the table's own, so
     /// [`PinTable::edition`](super::PinTable::edition) is always the right one.
     ///
     /// ```
