@@ -4,13 +4,12 @@ use mathlib.Core.Bool.{Bool, false}
 use mathlib.Core.List.{List}
 use mathlib.Core.Option.{Option}
 use Prim.Native.Nat.{ℕ}
-use native.Mathlib.Omega.{arith}
 use lib.ListN.{length}
 use Rattle.octets.specs.Octets.{any}
-use Rattle.octets.proofs.Parts.{part-length}
 use Rattle.tack_extension.specs.Tack.{publicKey}
 use Rattle.pin_model.specs.Slots.{used}
 use Rattle.pin_model.specs.Table.{KeyRecord, NameRecord, Table, table, keyIs}
+use Rattle.pin_model.proofs.TackShown.{key-size}
 use Rattle.pin_table.specs.declared.slots.KeySlot.{KeySlot}
 use Rattle.pin_records.specs.Holds.{Holds}
 use Rattle.pin_records.specs.Find.{holds, firstSlot, keyFound}
@@ -28,8 +27,7 @@ module _ {d : List ℕ} {two : Bool} {latest : ℕ} where
 -- the part of a tack that is its key
 module _ (tack : List ℕ) {key : List ℕ} (its : key ≡ publicKey tack) where
   pub key-length : length tack ≡ 166 → length key ≡ 64
-  unfolding publicKey
-  key-length l = ap length its ∙ part-length tack 0 64 (omega arith)
+  key-length l = ap length its ∙ key-size tack l
 
   module _ {b : List ℕ} {t : Table} (h : Holds b t) where
     pub tack-key-at : (k : KeySlot) → key-found.At k ≡ keyFound (firstSlot (holds (keyIs key)) (t .keys)) → FoundAt (λ x. x .key) (publicKey tack) (t .keys) 64 (k .0)

@@ -11,16 +11,15 @@ use lib.ListN.{length}
 use lib.Seq.{take-all}
 use borrow.Author.Tests.{eqb-true, lt-ltb, le-ltb}
 use Rattle.octets.specs.Octets.{part, same}
-use Rattle.octets.proofs.Tests.{is-false, and-left, and-right, or-cases}
-use Rattle.octets.proofs.Equal.{same-true}
-use Rattle.octets.proofs.Parts.{part-length}
+use Rattle.octets.proofs.Tests.{and-left, and-right, or-cases}
 use Rattle.tack_extension.specs.Extension.{Parts, tackLength, breaksLength, good, parse, tackOf, tackPart, breaksPart}
-use Rattle.tack_extension.specs.Tack.{publicKey, targetHash}
+use Rattle.tack_extension.specs.Tack.{targetHash}
 use Rattle.tack_extension.specs.Answers.{readingOf}
 use Rattle.tack_extension.specs.declared.reader.Reading.the-variants.{WellFormed, Malformed}
 use Rattle.tack_extension.proofs.Steps.{clash, breaks-small}
 use Rattle.tack_extension.proofs.RoundTrip.{reads-good}
 use Rattle.pin_model.specs.Judge.{unlessEmpty, isNone}
+use Rattle.pin_model.proofs.TackShown.{target-size}
 
 -- what the reading says
 pub malformed : (s : List ℕ) → readingOf (parse s) ≡ Malformed → isNone (parse s) ≡ true
@@ -63,22 +62,10 @@ shown (x ∷ xs) h = refl
 pub tack-length : (n : ℕ) → tackLength n ≡ true → (n ≡ 0 → ⊥) → n ≡ 166
 tack-length n e h = ⊎-elim (λ d. absurd (h (eqb-true n 0 d))) (λ d. eqb-true n 166 d) (or-cases (eqb n 0) (eqb n 166) e)
 
--- the fields of a tack
-module _ (t : List ℕ) (size : length t ≡ 166) where
-  pub key-length : length (publicKey t) ≡ 64
-  unfolding publicKey
-  key-length = part-length t 0 64 (omega arith)
-
-  pub hash-length : length (targetHash t) ≡ 32
-  unfolding targetHash
-  hash-length = part-length t 70 32 (omega arith)
-
-  pub other-length : (h : List ℕ) → (length h ≡ 32 → ⊥) → same (targetHash t) h ≡ false
-  other-length h f = is-false (same (targetHash t) h) (λ e. f (sym (ap length (same-true (targetHash t) h e)) ∙ hash-length))
-
-  pub hash-whole : (b h : List ℕ) → b ≡ targetHash t → length h ≡ 32 → same (part b 0 (length h)) h ≡ same (targetHash t) h
-  unfolding part
-  hash-whole b h e d = rw (e, d) (ap (λ (a : List ℕ). same a h) (take-all 32 (targetHash t) (omega (arith, hash-length))))
+-- a target hash that was read as b, compared
+pub hash-whole : (t : List ℕ) → length t ≡ 166 → (b h : List ℕ) → b ≡ targetHash t → length h ≡ 32 → same (part b 0 (length h)) h ≡ same (targetHash t) h
+unfolding part
+hash-whole t size b h e d = rw (e, d) (ap (λ (a : List ℕ). same a h) (take-all 32 (targetHash t) (omega (arith, target-size t size))))
 
 -- a test of two numbers that were read
 pub below : {a b x y : ℕ} → x ≡ a → y ≡ b → x < y → ltb a b ≡ true

@@ -3,7 +3,8 @@ use mathlib.Core.Path.{ap, _∙_}
 use denote.Ref.{now}
 use native.Mathlib.Omega.{arith}
 use lib.ListN.{length}
-use Rattle.pin_tests.proofs.Shown.{tack-length, key-length}
+use Rattle.pin_model.proofs.TackShown.{key-size}
+use Rattle.pin_tests.proofs.Shown.{tack-length}
 use Rattle.pin_tests_two.proofs.TackTests.{one-key-none, one-key-single, one-key-both}
 use Rattle.pin_tests_two.proofs.one_key.Statement.{statement}
 use Rattle.pin_tests_two.proofs.one_key.Tie as tie
@@ -27,7 +28,7 @@ same-64-at-requires : tie.Need-same-64-at-requires
 same-64-at-requires c κs =
     let s = c .before .before .before .before .before in (
       omega (arith, tack-length _ (s .pre .ofFirst) (c .before .before .if1 .left), tack-length _ (s .pre .ofSecond) (c .before .if2 .left)),
-      ap length (c .public-key .ensures) ∙ key-length (now (s .args .second)) (tack-length _ (s .pre .ofSecond) (c .before .if2 .left)),
+      ap length (c .public-key .ensures) ∙ key-size (now (s .args .second)) (tack-length _ (s .pre .ofSecond) (c .before .if2 .left)),
     )
 
 returns-3 : tie.Need-returns-3

@@ -4,7 +4,7 @@ use lib.Dec.{ltb}
 use lib.ListN.{length}
 use borrow.Author.Needs.{needs}
 use Rattle.pin_records.proofs.Found.{key-found-at}
-use Rattle.pin_tests.proofs.Shown.{key-length}
+use Rattle.pin_model.proofs.TackShown.{key-size}
 use Rattle.pin_tests.proofs.Floors.{not-revoked, revoked-by}
 use Rattle.pin_tests.proofs.tack.is_revoked.Statement.{statement}
 use Rattle.pin_tests.proofs.tack.is_revoked.Tie as tie
@@ -13,7 +13,7 @@ public-key-requires : tie.Need-public-key-requires
 public-key-requires c κs = search needs
 
 find-key-requires : tie.Need-find-key-requires
-find-key-requires c κs = (c .before .before .before .pre .0, ap length (c .public-key .ensures) ∙ key-length _ (c .before .before .before .pre .1))
+find-key-requires c κs = (c .before .before .before .pre .0, ap length (c .public-key .ensures) ∙ key-size _ (c .before .before .before .pre .1))
 
 enum-known-k : tie.Need-enum-known-k
 enum-known-k c = search needs
