@@ -2,7 +2,6 @@
 //! tables, and their soundness checks alone, by time and by instructions.
 
 mod block;
-mod chart;
 mod cost;
 mod line;
 mod markdown;
@@ -19,7 +18,6 @@ use cost::grouped;
 use line::Line;
 use measure::measure;
 use rules::Rules;
-use std::fs;
 use std::path::Path;
 use table::{Table, FULL_OF_20};
 use version::Version;
@@ -42,10 +40,7 @@ pub fn report(folder_before: &Path, repeats: usize) -> Result<(), String> {
     blocks.iter().for_each(print_block);
     rules.iter().for_each(print_rules);
     print_markdown(&blocks);
-    save(
-        &folder_before.join("calls.svg"),
-        &picture(&blocks, &versions),
-    )
+    Ok(())
 }
 
 fn introduce(repeats: usize) {
@@ -87,20 +82,4 @@ fn print_markdown(blocks: &[Block]) {
     markdown::print("microseconds a call, median", blocks, |cost| {
         in_hundredths(cost.timing().median())
     });
-}
-
-fn picture(blocks: &[Block], versions: &[Version; 3]) -> String {
-    let groups: Vec<_> = blocks.iter().map(|block| block.group(versions)).collect();
-    chart::draw(
-        "Instructions of a call of judge on lent bytes; each table to its own scale",
-        &groups,
-    )
-}
-
-fn save(path: &Path, picture: &str) -> Result<(), String> {
-    let name = path.display();
-    fs::write(path, picture).map_err(|error| format!("{name} cannot be written: {error}"))?;
-    println!();
-    println!("{name} has the calls of judge as a picture");
-    Ok(())
 }

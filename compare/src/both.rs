@@ -3,7 +3,7 @@
 use crate::area;
 use crate::call::{Answer, By, Call};
 use tack::raw;
-use tack::table::{Edition, Refusal, Verdict};
+use tack::table::Refusal;
 
 /// Whether both find the table sound: the library then refuses the empty name with 12, and before it a damaged table with 11.
 pub fn is_sound(table: &[u8]) -> Result<bool, String> {
@@ -35,10 +35,8 @@ fn by_both(call: &Call, before: &[u8]) -> Result<Given, String> {
     let answer = proved.answer;
     if !is_kept(call, answer.number, before, &proved.table) {
         Err(format!("both changed the table with {answer:?}"))
-    } else if alert(answer.number, call.edition()) != answer.alert {
-        Err(format!(
-            "the safe crate gives another alert than {answer:?}"
-        ))
+    } else if answer.number >= 10 && Refusal::try_from(answer.number).is_err() {
+        Err(format!("the safe crate knows no refusal of {answer:?}"))
     } else {
         Ok(proved)
     }
@@ -114,17 +112,5 @@ fn is_kept(call: &Call, number: u8, before: &[u8], after: &[u8]) -> bool {
         (0..=3, _) => true,
         (7, Call::Start(edition)) => area::is_empty(after, *edition),
         _ => before == after,
-    }
-}
-
-/// The alert that the safe crate knows for the number in the edition.
-fn alert(number: u8, edition: Edition) -> u8 {
-    let verdicts = [Verdict::Unpinned, Verdict::Confirmed, Verdict::Contradicted];
-    match Refusal::of(number) {
-        Some(refusal) => refusal.alert(edition),
-        None => verdicts
-            .iter()
-            .find(|verdict| verdict.number() == number)
-            .map_or(0, |verdict| verdict.alert()),
     }
 }

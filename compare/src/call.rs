@@ -72,14 +72,6 @@ impl Call {
         }
     }
 
-    /// The edition that has the alerts of the answer; where nothing is judged both have none.
-    pub fn edition(&self) -> Edition {
-        match self {
-            Call::JudgeTwo(_) => Edition::Two,
-            _ => Edition::One,
-        }
-    }
-
     /// The name that the call is about; starting is about none.
     pub fn name(&self) -> Option<&[u8]> {
         match self {

@@ -32,9 +32,14 @@ impl EditionTwo {
     /// What every run begins with, however short.
     pub fn edges(&mut self, progress: &mut Progress) -> Result<(), String> {
         let random = &mut self.random;
+        progress.begin("edition two: extensions, names and keys alike");
         progress.inputs_two += self.extensions.edges(random)? + self.alike.edges()?;
-        progress.calls_two += self.tables.edges(random)? + self.lists.edges()?;
+        progress.begin("edition two: tables");
+        progress.calls_two += self.tables.edges(random)?;
+        progress.begin("edition two: edges of lists");
+        progress.calls_two += self.lists.edges()?;
         for _ in 0..15 {
+            progress.begin("lists in both editions");
             progress.calls_two += self.lists.list(random)?;
             progress.say();
         }
@@ -44,6 +49,7 @@ impl EditionTwo {
     /// A table and some extensions; a list of calls one time in two, so that a run is not much longer for edition two.
     pub fn round(&mut self, progress: &mut Progress) -> Result<(), String> {
         let random = &mut self.random;
+        progress.begin("edition two: tables, lists and extensions");
         progress.calls_two += self.tables.case(random)?;
         if random.one_in(2) {
             progress.calls_two += self.lists.list(random)?;

@@ -1,5 +1,6 @@
 //! How long a run lasts, and how far it has come.
 
+use crate::watchdog::Watchdog;
 use std::time::{Duration, Instant};
 
 /// When a run is long enough.
@@ -13,6 +14,7 @@ pub enum Length {
 /// What was done, said on standard error about every two seconds.
 pub struct Progress {
     length: Length,
+    watchdog: Watchdog,
     began: Instant,
     said: Duration,
     /// Extensions and names.
@@ -28,9 +30,10 @@ pub struct Progress {
 }
 
 impl Progress {
-    pub fn new(length: Length) -> Progress {
+    pub fn new(length: Length, watchdog: Watchdog) -> Progress {
         Progress {
             length,
+            watchdog,
             began: Instant::now(),
             said: Duration::ZERO,
             inputs: 0,
@@ -40,6 +43,11 @@ impl Progress {
             inputs_two: 0,
             calls_two: 0,
         }
+    }
+
+    /// The next stage begins.
+    pub fn begin(&self, stage: &str) {
+        self.watchdog.begin(stage);
     }
 
     pub fn is_over(&self) -> bool {

@@ -8,6 +8,7 @@
 //! * [`spelling`]: names in letters of either case, which every part above mixes.
 //! * [`wire`], [`record`], [`area`]: the bytes of extensions, recorded calls and tables, without the help of either program.
 //! * [`tally`], [`kind_counts`]: how often each number and each kind came.
+//! * [`watchdog`]: an end for a comparison in which a call hangs.
 
 pub mod alike;
 pub mod area;
@@ -37,4 +38,5 @@ pub mod spelling;
 pub mod spoil;
 pub mod tables;
 pub mod tally;
+pub mod watchdog;
 pub mod wire;

@@ -77,8 +77,8 @@ pub(crate) fn all_came(what: &str, counts: &[u64]) -> Result<(), String> {
 /// Whether the connection's tack has a key that was recorded by it.
 fn is_new_key(before: &Area, connection: &Connection, after: &Area) -> bool {
     let extension = Extension::read(&connection.extension).ok();
-    let key = extension.and_then(|extension| extension.tack()?.public_key().try_into().ok());
-    key.is_some_and(|key| before.find_key(&key).is_none() && after.find_key(&key).is_some())
+    let key = extension.and_then(|extension| Some(extension.tack()?.public_key()));
+    key.is_some_and(|key| before.find_key(key).is_none() && after.find_key(key).is_some())
 }
 
 impl Lists {

@@ -12,7 +12,7 @@
 //!
 //! The proved program is `target/bin/replay`, unless `REPLAY_PROGRAM` names another. The comparison ends with status 1 at the
 //! first difference, or if a number, a spelling, an age of a pin, a kind of name field, of damage, of full table, of night or
-//! of anything else that is counted in edition two never came.
+//! of anything else that is counted in edition two never came. A call that hangs ends it with status 1 too, after two minutes.
 
 use compare::edition_two::EditionTwo;
 use compare::length::{Length, Progress};
@@ -20,6 +20,7 @@ use compare::nights::Nights;
 use compare::padded_names::PaddedNames;
 use compare::random::Random;
 use compare::tables::Tables;
+use compare::watchdog::Watchdog;
 use compare::{alike, extensions, lists, names};
 use std::process::ExitCode;
 use tack::table::Edition;
@@ -52,10 +53,14 @@ impl Comparison {
 
     /// What every run begins with, however short.
     fn edges(&mut self, random: &mut Random, progress: &mut Progress) -> Result<(), String> {
+        progress.begin("extensions and names");
         progress.inputs += self.extensions.edges(random)? + self.names.edges()?;
+        progress.begin("slots of tables");
         progress.slots += self.padded_names.edges()? + self.alike.edges()?;
+        progress.begin("tables");
         progress.calls += self.tables.edges(random)?;
         for _ in 0..20 {
+            progress.begin("lists of calls");
             progress.calls += self.lists.list(random)?;
             progress.say();
         }
@@ -67,10 +72,13 @@ impl Comparison {
 
     /// A list of calls, some tables, twice as many extensions and names, with name fields beside them; edition two; a night.
     fn round(&mut self, random: &mut Random, progress: &mut Progress) -> Result<(), String> {
+        progress.begin("lists of calls");
         progress.calls += self.lists.list(random)?;
+        progress.begin("tables");
         for _ in 0..5 {
             progress.calls += self.tables.case(random)?;
         }
+        progress.begin("extensions, names and slots of tables");
         while progress.inputs < 2 * progress.calls {
             progress.inputs += self.extensions.case(random)? + self.names.case(random)?;
             progress.slots += self.padded_names.case()?;
@@ -101,9 +109,10 @@ enum Run {
 }
 
 fn run(run: Run, seed: u64) -> Result<(), String> {
-    let nights = Nights::new(seed)?;
+    let watchdog = Watchdog::start();
+    let nights = Nights::new(seed, watchdog.clone())?;
     match run {
-        Run::Everything(length) => everything(nights, length, seed),
+        Run::Everything(length) => everything(nights, Progress::new(length, watchdog), seed),
         Run::Nights(count) => nights_alone(nights, count, seed),
     }
 }
@@ -117,10 +126,9 @@ fn nights_alone(mut nights: Nights, count: u64, seed: u64) -> Result<(), String>
     nights.finish()
 }
 
-fn everything(nights: Nights, length: Length, seed: u64) -> Result<(), String> {
+fn everything(nights: Nights, mut progress: Progress, seed: u64) -> Result<(), String> {
     let mut random = Random::new(seed);
     let mut comparison = Comparison::new(nights, seed);
-    let mut progress = Progress::new(length);
     comparison.edges(&mut random, &mut progress)?;
     loop {
         comparison.round(&mut random, &mut progress)?;

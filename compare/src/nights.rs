@@ -10,6 +10,7 @@ mod writers;
 
 use crate::random::Random;
 use crate::record;
+use crate::watchdog::Watchdog;
 use counts::Counts;
 use kinds::{Feed, Kind, KINDS};
 use program::{Program, Replayed};
@@ -18,6 +19,7 @@ use writers::Writers;
 /// The proved program, and what its nights have met so far.
 pub struct Nights {
     program: Program,
+    watchdog: Watchdog,
     random: Random,
     counts: Counts,
     writers: Writers,
@@ -25,9 +27,10 @@ pub struct Nights {
 
 impl Nights {
     /// Fails if the proved program is not there.
-    pub fn new(seed: u64) -> Result<Nights, String> {
+    pub fn new(seed: u64, watchdog: Watchdog) -> Result<Nights, String> {
         Ok(Nights {
             program: Program::find()?,
+            watchdog,
             random: Random::new(seed),
             counts: Counts::default(),
             writers: Writers::default(),
@@ -36,6 +39,8 @@ impl Nights {
 
     /// The papers' example, every case of every kind of night, and the writers of calls.
     pub fn edges(&mut self) -> Result<u64, String> {
+        self.watchdog
+            .begin("the example night and the writers of calls");
         self.example()?;
         self.writers.edges(&mut self.random)?;
         let mut nights = 0;
@@ -77,6 +82,7 @@ impl Nights {
     /// One night by both programs.
     fn night(&mut self, kind: usize, case: usize) -> Result<(), String> {
         let Kind { name, feed, .. } = KINDS[kind];
+        self.watchdog.begin(&format!("a night, {name}"));
         let night = KINDS[kind].night(case, &mut self.random);
         self.both(kind, feed, &night)
             .map_err(|problem| different(&format!("{name}, case {case}"), &night, &problem))

@@ -1,6 +1,5 @@
 //! What is measured on one table: the versions' soundness checks, their `judge` on lent bytes and their `replay`.
 
-use super::chart::{Bar, Group};
 use super::line::Line;
 use super::table::Table;
 use super::version::Version;
@@ -49,19 +48,6 @@ impl<'a> Block<'a> {
     pub fn print(&self) {
         for line in self.lines() {
             line.cost.print(&line.name);
-        }
-    }
-
-    /// The calls of `judge`, with the soundness check in each.
-    pub fn group(&self, versions: &[Version; 3]) -> Group {
-        let bar = |index: usize| Bar {
-            name: versions[index].name,
-            whole: self.judges[index].cost.instructions,
-            check: self.checks[index].cost.instructions - self.nothing.cost.instructions,
-        };
-        Group {
-            name: self.table.name,
-            bars: [0, 1, 2].map(bar),
         }
     }
 }

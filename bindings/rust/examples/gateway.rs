@@ -3,13 +3,14 @@
 
 use std::fmt;
 use tack::table::{
-    Connection, ConnectionTwo, Deletion, Edition, Inspection, Judgement, PinTable, Refusal, Verdict,
+    Checks, ChecksTwo, Connection, ConnectionTwo, Deletion, Edition, Inspection, Judgement,
+    PinTable, Refused,
 };
 use tack::{extension, extension_two};
 
 /// The SHA-256 of every server's SubjectPublicKeyInfo in these stories.
 const HASH: [u8; 32] = [0x77; 32];
-/// The verifier's part is played: each signature passes.
+/// The verifier's part is played: each check passes.
 const SIGNATURE: [u8; 64] = [0x55; 64];
 
 /// A tack that does not expire. A key of these stories is one byte, 64 times.
@@ -45,7 +46,7 @@ impl Shown {
             } => (tack(key, min_generation, generation), vec![]),
         };
         let mut bytes = vec![0; extension::MAX_LENGTH];
-        let written = extension::write(&tack, &breaks, 1, &mut bytes).ok()?;
+        let written = extension::write(&tack, &breaks, true, &mut bytes).ok()?;
         bytes.truncate(written);
         Some(bytes)
     }
@@ -128,90 +129,77 @@ impl Gateway {
     /// A finished connection.
     fn connect(&mut self, clock: u64, name: &str, shown: &Shown) {
         let extension = shown.extension();
-        let judged = self.pins.judge(&Connection {
-            clock,
-            name: name.as_bytes(),
-            extension: extension.as_deref(),
-            spki_sha256: &HASH,
-            handshake_finished: true,
-            key_is_point: true,
-            signature_correct: true,
-            breaks_correct: 0xff,
-        });
-        let answer = self.judged(judged);
+        let checks = Checks::all_passed();
+        let mut connection = Connection::new(clock, name.as_bytes(), &HASH, checks);
+        connection.extension = extension.as_deref();
+        let answer = judged(self.pins.judge(&connection));
         self.say(clock, name, &shown.to_string(), answer);
     }
 
     /// A finished connection of edition two.
     fn connect_two(&mut self, clock: u64, name: &str, shown: &Tacks) {
-        let judged = self.pins.judge_two(&ConnectionTwo {
-            clock,
-            name: name.as_bytes(),
-            extension: shown.extension().as_deref(),
-            spki_sha256: &HASH,
-            handshake_finished: true,
-            keys_are_points: [true, true],
-            signatures_correct: [true, true],
-        });
-        let answer = self.judged(judged);
+        let extension = shown.extension();
+        let checks = ChecksTwo::all_passed();
+        let mut connection = ConnectionTwo::new(clock, name.as_bytes(), &HASH, checks);
+        connection.extension = extension.as_deref();
+        let answer = judged(self.pins.judge_two(&connection));
         self.say(clock, name, &shown.to_string(), answer);
     }
 
     fn inspect(&mut self, clock: u64, name: &str) {
-        let inspected = self.pins.inspect(name.as_bytes(), clock);
-        let answer = self.inspected(inspected);
+        let answer = inspected(self.pins.inspect(name.as_bytes(), clock));
         self.say(clock, name, "(inspection)", answer);
     }
 
     fn inspect_second(&mut self, clock: u64, name: &str) {
-        let inspected = self.pins.inspect_second(name.as_bytes(), clock);
-        let answer = self.inspected(inspected);
+        let answer = inspected(self.pins.inspect_second(name.as_bytes(), clock));
         self.say(clock, name, "(inspection of the second record)", answer);
     }
 
     fn delete(&mut self, clock: u64, name: &str) {
         let answer = match self.pins.delete(name.as_bytes()) {
-            Ok(Deletion::Deleted) => (3, 0, "deleted".to_string()),
-            Ok(Deletion::NotRecorded) => (4, 0, "not recorded".to_string()),
-            Err(refusal) => self.refused(refusal),
+            Ok(deletion) => (deletion.number(), 0, deleted(deletion).to_string()),
+            Err(refusal) => refused(refusal),
         };
         self.say(clock, name, "(deletion)", answer);
     }
+}
 
-    fn judged(&self, judged: Result<Judgement, Refusal>) -> Answer {
-        match judged {
-            Ok(judgement) => answer(judgement.verdict),
-            Err(refusal) => self.refused(refusal),
-        }
-    }
-
-    fn inspected(&self, inspected: Result<Option<Inspection>, Refusal>) -> Answer {
-        match inspected {
-            Ok(None) => (4, 0, "not recorded".to_string()),
-            Ok(Some(record)) => {
-                let made = format!("made at {}, floor {}", record.initial, record.floor);
-                match record.end.zip(record.minutes_left) {
-                    None => (5, 0, format!("{made}, not activated")),
-                    Some((end, left)) => (6, 0, format!("{made}, end {end}, minutes left {left}")),
-                }
-            }
-            Err(refusal) => self.refused(refusal),
-        }
-    }
-
-    fn refused(&self, refusal: Refusal) -> Answer {
-        let alert = refusal.alert(self.pins.edition());
-        (refusal.number(), alert, format!("refused: {refusal}"))
+fn judged(judged: Result<Judgement, Refused>) -> Answer {
+    match judged {
+        Ok(given) => (
+            given.verdict.number(),
+            given.alert,
+            given.verdict.to_string(),
+        ),
+        Err(refusal) => refused(refusal),
     }
 }
 
-fn answer(verdict: Verdict) -> Answer {
-    let word = match verdict {
-        Verdict::Unpinned => "unpinned",
-        Verdict::Confirmed => "confirmed",
-        Verdict::Contradicted => "contradicted",
-    };
-    (verdict.number(), verdict.alert(), word.to_string())
+fn inspected(inspected: Result<Option<Inspection>, Refused>) -> Answer {
+    match inspected {
+        Ok(None) => (4, 0, "not recorded".to_string()),
+        Ok(Some(record)) => {
+            let made = format!("made at {}, floor {}", record.initial, record.floor);
+            match record.end.zip(record.minutes_left) {
+                None => (5, 0, format!("{made}, not activated")),
+                Some((end, left)) => (6, 0, format!("{made}, end {end}, minutes left {left}")),
+            }
+        }
+        Err(refusal) => refused(refusal),
+    }
+}
+
+fn deleted(deletion: Deletion) -> &'static str {
+    match deletion {
+        Deletion::Deleted => "deleted",
+        _ => "not recorded",
+    }
+}
+
+fn refused(refused: Refused) -> Answer {
+    let words = format!("refused: {refused}");
+    (refused.number(), refused.alert(), words)
 }
 
 /// A pin is made, activated, contradicted, and ends. Browsers spell its name with capitals.

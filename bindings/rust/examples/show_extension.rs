@@ -55,7 +55,7 @@ fn main() -> ExitCode {
             let rewritten = extension::write(
                 extension.tack_bytes(),
                 extension.break_bytes(),
-                extension.activation_enabled().into(),
+                extension.activation_enabled(),
                 &mut again,
             );
             let same = rewritten.is_ok_and(|length| again[..length] == bytes[..]);

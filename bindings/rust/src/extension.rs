@@ -6,7 +6,7 @@
 //! // A server's extension: one tack, no break signatures, activation enabled.
 //! let tack = [0x11u8; extension::TACK_LENGTH];
 //! let mut bytes = [0u8; extension::MAX_LENGTH];
-//! let length = extension::write(&tack, &[], 1, &mut bytes)?;
+//! let length = extension::write(&tack, &[], true, &mut bytes)?;
 //! assert_eq!(length, 170);
 //!
 //! let read = Extension::read(&bytes[..length]).expect("it is well-formed");
@@ -32,19 +32,22 @@ pub const MAX_LENGTH: usize = 1194;
 /// The bytes that the signature of a tack covers.
 pub const SIGNED_LENGTH: usize = 110;
 
-/// The bytes are no well-formed extension of edition one.
-#[derive(Debug, Clone, Copy, PartialEq, Eq)]
-pub struct Malformed;
+/// The bytes are no well-formed extension of the edition in which they were read.
+#[derive(Debug, Clone, Copy, PartialEq, Eq, Hash)]
+pub struct Malformed {
+    number: u8,
+    alert: u8,
+}
 
 impl Malformed {
-    /// The refusal's number.
+    /// The refusal's number: 16.
     pub fn number(self) -> u8 {
-        16
+        self.number
     }
 
-    /// The TLS alert that goes with it in edition one: decode_error.
+    /// The TLS alert that goes with it: 50, decode_error, in edition one, and 42, bad_certificate, in edition two.
     pub fn alert(self) -> u8 {
-        50
+        self.alert
     }
 }
 
@@ -56,27 +59,31 @@ impl fmt::Display for Malformed {
 
 impl std::error::Error for Malformed {}
 
-/// Why a writer wrote nothing, in either edition.
-#[derive(Debug, Clone, Copy, PartialEq, Eq)]
+/// A reader's answer: the activation, or in edition two the flags.
+pub(crate) fn read(answer: raw::Reading) -> Result<u8, Malformed> {
+    match answer.number {
+        9 => Ok(answer.activation),
+        number => Err(Malformed {
+            number,
+            alert: answer.alert,
+        }),
+    }
+}
+
+/// Why a writer wrote nothing, in either edition. No alert goes with it.
+#[derive(Debug, Clone, Copy, PartialEq, Eq, Hash)]
+#[non_exhaustive]
 pub enum WriteError {
-    /// A part has a length, or the activation or the flags a value, that no extension can have.
-    BadPart,
-    /// The output is too small.
-    NoSpace,
+    /// 25: a part has a length, or the flags a value, that no extension can have.
+    BadPart = 25,
+    /// 26: the output is too small.
+    NoSpace = 26,
 }
 
 impl WriteError {
     /// The refusal's number.
     pub fn number(self) -> u8 {
-        match self {
-            WriteError::BadPart => 25,
-            WriteError::NoSpace => 26,
-        }
-    }
-
-    /// No alert goes with a writer's refusal.
-    pub fn alert(self) -> u8 {
-        0
+        self as u8
     }
 }
 
@@ -84,7 +91,7 @@ impl fmt::Display for WriteError {
     fn fmt(&self, f: &mut fmt::Formatter<'_>) -> fmt::Result {
         f.write_str(match self {
             WriteError::BadPart => {
-                "a part of the extension has a wrong length, or the activation or the flags a wrong value"
+                "a part of the extension has a wrong length, or the flags a wrong value"
             }
             WriteError::NoSpace => "the output is too small",
         })
@@ -104,16 +111,13 @@ pub struct Extension<'a> {
 impl<'a> Extension<'a> {
     /// Reads an extension.
     pub fn read(bytes: &'a [u8]) -> Result<Extension<'a>, Malformed> {
-        let reading = raw::extension_read(bytes);
-        if reading.number != 9 {
-            return Err(Malformed);
-        }
+        let activation = read(raw::extension_read(bytes))?;
         let tack = raw::extension_tack(bytes);
         let breaks = raw::extension_breaks(bytes);
         Ok(Extension {
             tack: &bytes[tack.start..tack.start + tack.length],
             breaks: &bytes[breaks.start..breaks.start + breaks.length],
-            enabled: reading.activation == 1,
+            enabled: activation == 1,
         })
     }
 
@@ -156,8 +160,8 @@ impl<'a> Tack<'a> {
     }
 
     /// The tack key, as the two coordinates of a P-256 point.
-    pub fn public_key(&self) -> &'a [u8] {
-        &self.0[..64]
+    pub fn public_key(&self) -> &'a [u8; 64] {
+        field(self.0, 0)
     }
 
     /// The least generation that the key's owner still stands by.
@@ -170,19 +174,19 @@ impl<'a> Tack<'a> {
         self.0[65]
     }
 
-    /// When the tack expires, in minutes since 1970.
+    /// When the tack expires, in minutes since 1970, not seconds.
     pub fn expiration(&self) -> u32 {
-        u32::from_be_bytes([self.0[66], self.0[67], self.0[68], self.0[69]])
+        u32::from_be_bytes(*field(self.0, 66))
     }
 
     /// The SHA-256 of the server's SubjectPublicKeyInfo.
-    pub fn target_hash(&self) -> &'a [u8] {
-        &self.0[70..102]
+    pub fn target_hash(&self) -> &'a [u8; 32] {
+        field(self.0, 70)
     }
 
     /// The tack key's signature over [`signed_bytes`].
-    pub fn signature(&self) -> &'a [u8] {
-        &self.0[102..]
+    pub fn signature(&self) -> &'a [u8; 64] {
+        field(self.0, 102)
     }
 }
 
@@ -192,14 +196,19 @@ pub struct BreakSignature<'a>(&'a [u8; BREAK_SIGNATURE_LENGTH]);
 
 impl<'a> BreakSignature<'a> {
     /// The tack key whose pins are void.
-    pub fn public_key(&self) -> &'a [u8] {
-        &self.0[..64]
+    pub fn public_key(&self) -> &'a [u8; 64] {
+        field(self.0, 0)
     }
 
     /// The key's signature.
-    pub fn signature(&self) -> &'a [u8] {
-        &self.0[64..]
+    pub fn signature(&self) -> &'a [u8; 64] {
+        field(self.0, 64)
     }
+}
+
+/// The N bytes from this place on, all within the tack or the break signature.
+fn field<const N: usize>(bytes: &[u8], at: usize) -> &[u8; N] {
+    bytes[at..].first_chunk().expect("the field lies within")
 }
 
 /// A writer's answer.
@@ -213,14 +222,15 @@ pub(crate) fn written(answer: raw::Writing) -> Result<usize, WriteError> {
 
 /// Writes an extension at the start of `out` and gives the number of bytes written.
 ///
-/// The tack has 0 or 166 bytes, the break signatures 128 each and at most eight of them, the activation is 0 or 1. No byte
-/// behind the extension changes, and none at all on an error.
+/// The tack has 0 or 166 bytes, the break signatures 128 each and at most eight of them. No byte behind the extension changes,
+/// and none at all on an error.
 pub fn write(
     tack: &[u8],
     breaks: &[u8],
-    activation: u8,
+    activation_enabled: bool,
     out: &mut [u8],
 ) -> Result<usize, WriteError> {
+    let activation = u8::from(activation_enabled);
     written(raw::extension_write(tack, breaks, activation, out))
 }
 

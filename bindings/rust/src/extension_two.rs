@@ -24,9 +24,8 @@
 //! # Ok::<(), WriteError>(())
 //! ```
 
-use crate::extension::{written, Tack, WriteError};
+use crate::extension::{read, written, Malformed, Tack, WriteError};
 use crate::raw;
-use std::fmt;
 
 /// The bytes of the longest extension: two tacks.
 pub const MAX_LENGTH: usize = 335;
@@ -35,30 +34,6 @@ pub const MAX_LENGTH: usize = 335;
 pub const FIRST_ENABLED: u8 = 0b01;
 /// The bit of the flags that enables the second tack.
 pub const SECOND_ENABLED: u8 = 0b10;
-
-/// The bytes are no well-formed extension of edition two.
-#[derive(Debug, Clone, Copy, PartialEq, Eq)]
-pub struct Malformed;
-
-impl Malformed {
-    /// The refusal's number.
-    pub fn number(self) -> u8 {
-        16
-    }
-
-    /// The TLS alert that goes with it in edition two: bad_certificate.
-    pub fn alert(self) -> u8 {
-        42
-    }
-}
-
-impl fmt::Display for Malformed {
-    fn fmt(&self, f: &mut fmt::Formatter<'_>) -> fmt::Result {
-        f.write_str("the bytes are no well-formed TACK extension of edition two")
-    }
-}
-
-impl std::error::Error for Malformed {}
 
 /// A well-formed extension, as parts of the bytes that it was read from.
 #[derive(Debug, Clone, Copy, PartialEq, Eq)]
@@ -72,19 +47,15 @@ pub struct Extension<'a> {
 impl<'a> Extension<'a> {
     /// Reads an extension.
     pub fn read(bytes: &'a [u8]) -> Result<Extension<'a>, Malformed> {
-        let reading = raw::extension_two_read(bytes);
-        if reading.number != 9 {
-            return Err(Malformed);
-        }
+        let flags = read(raw::extension_two_read(bytes))?;
         let first = raw::extension_two_tack(bytes, false);
         let second = raw::extension_two_tack(bytes, true);
         let part = |span: raw::Span| &bytes[span.start..span.start + span.length];
         Ok(Extension {
             tacks: &bytes[first.start..][..first.length + second.length],
-            // A well-formed extension has a first tack.
-            first: Tack::of(part(first)).ok_or(Malformed)?,
+            first: Tack::of(part(first)).expect("a well-formed extension has a first tack"),
             second: Tack::of(part(second)),
-            flags: reading.activation,
+            flags,
         })
     }
 

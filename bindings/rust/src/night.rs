@@ -6,27 +6,18 @@
 //! ```
 //! use tack::extension;
 //! use tack::night::{self, NotRecordable};
-//! use tack::table::Connection;
+//! use tack::table::{Checks, Connection};
 //!
 //! // A tack of generation 3 that does not expire, activation enabled.
 //! let (key, hash, signature) = ([0x11; 64], [0x77; 32], [0x55; 64]);
 //! let tack = [&key[..], &[3, 3], &[0xff; 4], &hash, &signature].concat();
 //! let mut shown = [0; 170];
-//! extension::write(&tack, &[], 1, &mut shown).expect("its parts have the right lengths");
-//! let first = Connection {
-//!     clock: 1000,
-//!     name: b"a.b",
-//!     extension: Some(&shown),
-//!     spki_sha256: &hash,
-//!     handshake_finished: true,
-//!     key_is_point: true,
-//!     signature_correct: true,
-//!     breaks_correct: 0,
-//! };
+//! extension::write(&tack, &[], true, &mut shown).expect("its parts have the right lengths");
+//! let first = Connection::new(1000, b"a.b", &hash, Checks::all_passed()).with_extension(&shown);
 //!
 //! let mut night = Vec::new();
 //! night::record(&first, &mut night)?;
-//! night::record(&Connection { clock: 1600, ..first }, &mut night)?;
+//! night::record(&first.with_clock(1600), &mut night)?;
 //!
 //! // Each call is as long as the other, and begins with its clock and its name.
 //! let (one, two) = night.split_at(229);
@@ -35,8 +26,7 @@
 //! assert_eq!(one[13..], two[13..]);
 //!
 //! // What cannot be recorded leaves the night as it was.
-//! let endless = Connection { clock: 1 << 32, ..first };
-//! assert_eq!(night::record(&endless, &mut night), Err(NotRecordable));
+//! assert!(night::record(&first.with_clock(1 << 32), &mut night).is_err());
 //! assert_eq!(night.len(), 458);
 //! # Ok::<(), NotRecordable>(())
 //! ```
@@ -49,19 +39,15 @@ use std::fmt;
 pub const LONGEST_CALL: usize = 4452;
 
 /// The call has no recorded form: its clock is above 32 bits, its name above 300 bytes, its hash not of 32 bytes, or its
-/// extension above 4,096 bytes.
+/// extension above 4,096 bytes. No alert goes with it.
 #[derive(Debug, Clone, Copy, PartialEq, Eq, Hash)]
+#[non_exhaustive]
 pub struct NotRecordable;
 
 impl NotRecordable {
     /// The refusal's number.
     pub fn number(self) -> u8 {
         25
-    }
-
-    /// No alert goes with a writer's refusal.
-    pub fn alert(self) -> u8 {
-        0
     }
 }
 

@@ -5,63 +5,56 @@
 //!
 //! ```
 //! use tack::extension;
-//! use tack::table::{Connection, PinTable, Refusal, Verdict};
+//! use tack::table::{Checks, Connection, PinTable, Refused, Verdict};
 //!
 //! /// An extension with one tack of generation 3 that does not expire, activation enabled.
 //! fn showing(key: &[u8; 64], target_hash: &[u8; 32]) -> Vec<u8> {
 //!     let signature = [0x55; 64];
 //!     let tack = [&key[..], &[3, 3], &[0xff; 4], target_hash, &signature].concat();
 //!     let mut bytes = vec![0; 4 + tack.len()];
-//!     extension::write(&tack, &[], 1, &mut bytes).expect("its parts have the right lengths");
+//!     extension::write(&tack, &[], true, &mut bytes).expect("its parts have the right lengths");
 //!     bytes
 //! }
 //!
 //! let hash = [0x77; 32];
 //! let (ours, another) = (showing(&[0x11; 64], &hash), showing(&[0x22; 64], &hash));
-//! let first = Connection {
-//!     clock: 1000,
-//!     name: b"desk.clinic.example",
-//!     extension: Some(&ours),
-//!     spki_sha256: &hash,
-//!     handshake_finished: true,
-//!     key_is_point: true,
-//!     signature_correct: true,
-//!     breaks_correct: 0,
-//! };
+//! // The caller verified the tack's signature and the rest before.
+//! let first = Connection::new(1000, b"desk.clinic.example", &hash, Checks::all_passed()).with_extension(&ours);
 //! let mut pins = PinTable::new();
 //!
 //! // The pin is made, and stands inactive.
 //! assert_eq!(pins.judge(&first)?.verdict, Verdict::Unpinned);
 //!
 //! // After 600 minutes it is activated for 600 more.
-//! let again = Connection { clock: 1600, ..first };
-//! assert_eq!(pins.judge(&again)?.verdict, Verdict::Confirmed);
+//! assert_eq!(pins.judge(&first.with_clock(1600))?.verdict, Verdict::Confirmed);
 //! let record = pins.inspect(first.name, 1600)?.expect("it is recorded");
 //! assert_eq!((record.initial, record.end, record.minutes_left), (1000, Some(2200), Some(600)));
 //!
 //! // Another key, or none at all, contradicts it: the gateway sends alert 49, access_denied.
-//! let impostor = Connection { clock: 2000, extension: Some(&another), ..first };
+//! let impostor = first.with_clock(2000).with_extension(&another);
 //! assert_eq!(pins.judge(&impostor)?.verdict, Verdict::Contradicted);
-//! let silent = Connection { clock: 2199, extension: None, ..first };
-//! assert_eq!(pins.judge(&silent)?.verdict.alert(), 49);
+//! let silent = first.with_clock(2199).without_extension();
+//! assert_eq!(pins.judge(&silent)?.alert, 49);
 //!
 //! // At its end a pin is no longer active.
-//! assert_eq!(pins.judge(&Connection { clock: 2200, ..silent })?.verdict, Verdict::Unpinned);
-//! # Ok::<(), Refusal>(())
+//! assert_eq!(pins.judge(&silent.with_clock(2200))?.verdict, Verdict::Unpinned);
+//! # Ok::<(), Refused>(())
 //! ```
 //!
 //! A table is of one [`Edition`] of the draft. [`PinTable::judge_two`] tells how a server of edition two moves from one key to
 //! another through two tacks.
 
 mod answer;
+mod checks;
 mod connection;
 mod edition;
 mod refusal;
 
 pub use answer::{Deletion, Inspection, Judgement, Verdict};
+pub use checks::{Checks, ChecksTwo};
 pub use connection::{Connection, ConnectionTwo};
 pub use edition::Edition;
-pub use refusal::Refusal;
+pub use refusal::{NoRefusal, Refusal, Refused};
 
 use crate::raw;
 use std::fmt;
@@ -83,11 +76,11 @@ const EDITION_AT: usize = 4;
 ///
 /// ```
 /// # use tack::extension;
-/// # use tack::table::{Connection, PinTable, Refusal, Verdict};
+/// # use tack::table::{Checks, Connection, PinTable, Refusal, Refused, Verdict};
 /// /// An extension with the given tack and break signatures, activation enabled.
 /// fn extension(tack: &[u8], breaks: &[u8]) -> Vec<u8> {
 ///     let mut bytes = vec![0; 4 + tack.len() + breaks.len()];
-///     extension::write(tack, breaks, 1, &mut bytes).expect("its parts have the right lengths");
+///     extension::write(tack, breaks, true, &mut bytes).expect("its parts have the right lengths");
 ///     bytes
 /// }
 ///
@@ -96,17 +89,8 @@ const EDITION_AT: usize = 4;
 ///     [&key[..], &[min_generation, generation], &[0xff; 4], &hash, &signature].concat()
 /// };
 /// let third = extension(&tack(3, 3), &[]);
-/// let desk = Connection {
-///     clock: 1000,
-///     name: b"desk.school.example",
-///     extension: Some(&third),
-///     spki_sha256: &hash,
-///     handshake_finished: true,
-///     key_is_point: true,
-///     signature_correct: true,
-///     breaks_correct: 0b1,
-/// };
-/// let library = Connection { name: b"library.school.example", ..desk };
+/// let desk = Connection::new(1000, b"desk.school.example", &hash, Checks::all_passed()).with_extension(&third);
+/// let library = desk.with_name(b"library.school.example");
 /// let mut pins = PinTable::new();
 /// pins.judge(&desk)?;
 /// pins.judge(&library)?;
@@ -114,19 +98,19 @@ const EDITION_AT: usize = 4;
 /// // Generation 3 is the least that the school stands by, so a tack of generation 2 is refused at both names.
 /// let second = extension(&tack(2, 2), &[]);
 /// for name in [desk.name, library.name] {
-///     let refusal = pins.judge(&Connection { name, extension: Some(&second), ..desk }).unwrap_err();
-///     assert_eq!(refusal, Refusal::GenerationRevoked);
-///     assert_eq!((refusal.number(), refusal.alert(pins.edition())), (22, 44));
+///     let refused = pins.judge(&desk.with_name(name).with_extension(&second)).unwrap_err();
+///     assert_eq!(refused.refusal(), Refusal::GenerationRevoked);
+///     assert_eq!((refused.number(), refused.alert()), (22, 44));
 /// }
 ///
 /// // The break signature, shown at one name, takes the key's pins at both.
 /// let broken = extension(&[], &[key, signature].concat());
-/// let judgement = pins.judge(&Connection { clock: 1600, extension: Some(&broken), ..desk })?;
+/// let judgement = pins.judge(&desk.with_clock(1600).with_extension(&broken))?;
 /// assert_eq!(judgement.verdict, Verdict::Unpinned);
 /// for name in [desk.name, library.name] {
 ///     assert_eq!(pins.inspect(name, 1600)?, None);
 /// }
-/// # Ok::<(), Refusal>(())
+/// # Ok::<(), Refused>(())
 /// ```
 #[derive(Clone, PartialEq, Eq)]
 pub struct PinTable {
@@ -164,20 +148,18 @@ impl PinTable {
     ///
     /// let mut bytes = PinTable::new().as_bytes().to_vec();
     /// assert!(PinTable::from_bytes(&bytes).is_ok());
-    /// assert_eq!(PinTable::from_bytes(&bytes[1..]), Err(Refusal::AreaLength));
+    /// assert_eq!(PinTable::from_bytes(&bytes[1..]).unwrap_err().refusal(), Refusal::AreaLength);
     /// bytes[AREA_LENGTH - 1] = 1;
-    /// assert_eq!(PinTable::from_bytes(&bytes), Err(Refusal::Damaged));
+    /// assert_eq!(PinTable::from_bytes(&bytes).unwrap_err().refusal(), Refusal::Damaged);
     /// ```
-    pub fn from_bytes(bytes: &[u8]) -> Result<PinTable, Refusal> {
+    pub fn from_bytes(bytes: &[u8]) -> Result<PinTable, Refused> {
         // Any name would do: inspection looks at the table first.
-        let number = raw::inspect(bytes, b"a", 0, false).number;
-        if number >= 10 {
-            return Err(refusal(number));
+        let answer = raw::inspect(bytes, b"a", 0, false);
+        if answer.number >= 10 {
+            return Err(Refused::new(answer.number, answer.alert));
         }
-        match Box::try_from(bytes.to_vec()) {
-            Ok(area) => Ok(PinTable { area }),
-            Err(_) => Err(Refusal::AreaLength),
-        }
+        let area = Box::try_from(bytes.to_vec()).expect("the library refuses every other length");
+        Ok(PinTable { area })
     }
 
     /// The table's bytes, to be kept.
@@ -187,7 +169,7 @@ impl PinTable {
 
     /// Judges one finished connection of edition one and brings the table up to date. By a table of edition two it is refused
     /// with [`Refusal::OtherEdition`].
-    pub fn judge(&mut self, connection: &Connection) -> Result<Judgement, Refusal> {
+    pub fn judge(&mut self, connection: &Connection) -> Result<Judgement, Refused> {
         judgement(raw::judge(&mut self.area[..], &connection.arguments()))
     }
 
@@ -199,7 +181,7 @@ impl PinTable {
     ///
     /// ```
     /// # use tack::extension_two;
-    /// # use tack::table::{ConnectionTwo, Edition, PinTable, Refusal, Verdict};
+    /// # use tack::table::{ChecksTwo, ConnectionTwo, Edition, PinTable, Refused, Verdict};
     /// /// An extension with tacks of these keys, each of generation 3 and without an expiration, and with these flags.
     /// fn showing(keys: &[u8], flags: u8) -> Vec<u8> {
     ///     let tack = |key: &u8| [&[*key; 64][..], &[3, 3], &[0xff; 4], &[0x77; 32], &[0x55; 64]].concat();
@@ -210,18 +192,10 @@ impl PinTable {
     /// }
     ///
     /// let (old, new) = (0x11, 0x22);
-    /// let connection = ConnectionTwo {
-    ///     clock: 1000,
-    ///     name: b"desk.clinic.example",
-    ///     extension: None,
-    ///     spki_sha256: &[0x77; 32],
-    ///     handshake_finished: true,
-    ///     keys_are_points: [true, true],
-    ///     signatures_correct: [true, true],
-    /// };
+    /// let connection = ConnectionTwo::new(1000, b"desk.clinic.example", &[0x77; 32], ChecksTwo::all_passed());
     /// let mut pins = PinTable::of_edition(Edition::Two);
     /// let mut verdict = |clock, extension: &[u8]| {
-    ///     let shown = ConnectionTwo { clock, extension: Some(extension), ..connection };
+    ///     let shown = connection.with_clock(clock).with_extension(extension);
     ///     pins.judge_two(&shown).map(|judgement| judgement.verdict)
     /// };
     ///
@@ -244,9 +218,9 @@ impl PinTable {
     /// let record = pins.inspect(b"desk.clinic.example", 2800)?.expect("it is recorded");
     /// assert_eq!((record.initial, record.minutes_left), (1700, Some(1100)));
     /// assert_eq!(pins.inspect_second(b"desk.clinic.example", 2800)?, None);
-    /// # Ok::<(), Refusal>(())
+    /// # Ok::<(), Refused>(())
     /// ```
-    pub fn judge_two(&mut self, connection: &ConnectionTwo) -> Result<Judgement, Refusal> {
+    pub fn judge_two(&mut self, connection: &ConnectionTwo) -> Result<Judgement, Refused> {
         judgement(raw::judge_two(&mut self.area[..], &connection.arguments()))
     }
 
@@ -257,24 +231,25 @@ impl PinTable {
     ///
     /// let mut pins = PinTable::new();
     /// assert_eq!(pins.delete(b"Desk.Example"), Ok(Deletion::NotRecorded));
-    /// assert_eq!(pins.delete(b"desk.example."), Err(Refusal::NameMalformed));
+    /// assert_eq!(pins.delete(b"desk.example.").unwrap_err().refusal(), Refusal::NameMalformed);
     /// ```
-    pub fn delete(&mut self, name: &[u8]) -> Result<Deletion, Refusal> {
-        match raw::delete(&mut self.area[..], name).number {
+    pub fn delete(&mut self, name: &[u8]) -> Result<Deletion, Refused> {
+        let answer = raw::delete(&mut self.area[..], name);
+        match answer.number {
             3 => Ok(Deletion::Deleted),
             4 => Ok(Deletion::NotRecorded),
-            number => Err(refusal(number)),
+            number => Err(Refused::new(number, answer.alert)),
         }
     }
 
     /// Looks at a name's record, in edition two at the first by the order of the slots; 12 and 13 are the refusals. The clock
     /// may lie before that of the latest connection.
-    pub fn inspect(&self, name: &[u8], clock: u64) -> Result<Option<Inspection>, Refusal> {
+    pub fn inspect(&self, name: &[u8], clock: u64) -> Result<Option<Inspection>, Refused> {
         inspection(raw::inspect(&self.area[..], name, clock, false))
     }
 
     /// Looks at a name's second record in the same way. Only in edition two there may be one.
-    pub fn inspect_second(&self, name: &[u8], clock: u64) -> Result<Option<Inspection>, Refusal> {
+    pub fn inspect_second(&self, name: &[u8], clock: u64) -> Result<Option<Inspection>, Refused> {
         inspection(raw::inspect(&self.area[..], name, clock, true))
     }
 
@@ -300,26 +275,27 @@ impl fmt::Debug for PinTable {
 }
 
 /// The verdict, or the refusal.
-fn judgement(answer: raw::Judgement) -> Result<Judgement, Refusal> {
+fn judgement(answer: raw::Judgement) -> Result<Judgement, Refused> {
     let verdict = match answer.number {
         0 => Verdict::Unpinned,
         1 => Verdict::Confirmed,
         2 => Verdict::Contradicted,
-        number => return Err(refusal(number)),
+        number => return Err(Refused::new(number, answer.alert)),
     };
     Ok(Judgement {
         verdict,
+        alert: answer.alert,
         no_room: answer.no_room,
     })
 }
 
 /// The record, if there is one, or the refusal.
-fn inspection(answer: raw::Inspection) -> Result<Option<Inspection>, Refusal> {
+fn inspection(answer: raw::Inspection) -> Result<Option<Inspection>, Refused> {
     let has_end = match answer.number {
         4 => return Ok(None),
         5 => false,
         6 => true,
-        number => return Err(refusal(number)),
+        number => return Err(Refused::new(number, answer.alert)),
     };
     Ok(Some(Inspection {
         floor: answer.floor,
@@ -327,9 +303,4 @@ fn inspection(answer: raw::Inspection) -> Result<Option<Inspection>, Refusal> {
         end: has_end.then_some(answer.end),
         minutes_left: has_end.then_some(answer.minutes_left),
     }))
-}
-
-/// The refusal of a number that is none of the call's own.
-fn refusal(number: u8) -> Refusal {
-    Refusal::of(number).unwrap_or_else(|| unreachable!("the library answered {number}"))
 }

@@ -3,9 +3,7 @@
 mod common_two;
 
 use common_two::{good, shown, tack, with_two_pins, Tack, HASH};
-use tack::table::{
-    ConnectionTwo, Deletion, Edition, Inspection, PinTable, Refusal, Verdict, AREA_LENGTH,
-};
+use tack::table::{Checks, Connection, Deletion, Edition, PinTable, Refusal, Verdict, AREA_LENGTH};
 
 #[test]
 fn the_empty_tables_differ_in_byte_4() {
@@ -28,11 +26,12 @@ fn a_kept_table_keeps_its_edition() {
     let again = PinTable::from_bytes(&kept).expect("a sound table");
     assert!(again == pins);
     assert_eq!(again.edition(), Edition::Two);
-    // In edition one a name has one record.
-    kept[4] = 0;
-    assert_eq!(PinTable::from_bytes(&kept), Err(Refusal::Damaged));
-    kept[4] = 2;
-    assert_eq!(PinTable::from_bytes(&kept), Err(Refusal::Damaged));
+    // In edition one a name has one record, and there is no third edition.
+    for edition in [0, 2] {
+        kept[4] = edition;
+        let refused = PinTable::from_bytes(&kept).expect_err("it is damaged");
+        assert_eq!(refused.refusal(), Refusal::Damaged);
+    }
 }
 
 #[test]
@@ -40,11 +39,8 @@ fn two_records_are_inspected_in_the_order_of_their_slots() {
     let mut pins = with_two_pins();
     // The second key alone: the first record goes, and its slot is free again.
     let second = shown(&[tack(0x22)], 0b1);
-    let at = |clock, extension| ConnectionTwo {
-        clock,
-        ..good(extension)
-    };
-    let given = pins.judge_two(&at(1600, &second)).expect("a verdict");
+    let given = pins.judge_two(&good(&second).with_clock(1600));
+    let given = given.expect("a verdict");
     assert_eq!(given.verdict, Verdict::Unpinned);
     let fifth = Tack {
         min_generation: 5,
@@ -52,22 +48,17 @@ fn two_records_are_inspected_in_the_order_of_their_slots() {
         ..tack(0x11)
     };
     let both = shown(&[fifth, tack(0x22)], 0b11);
-    let given = pins.judge_two(&at(1700, &both)).expect("a verdict");
+    let given = pins.judge_two(&good(&both).with_clock(1700));
+    let given = given.expect("a verdict");
     assert_eq!(given.verdict, Verdict::Confirmed);
-    let new = Inspection {
-        floor: 5,
-        initial: 1700,
-        end: None,
-        minutes_left: None,
-    };
-    let old = Inspection {
-        floor: 3,
-        initial: 1000,
-        end: Some(2400),
-        minutes_left: Some(400),
-    };
-    assert_eq!(pins.inspect(b"A.b", 2000), Ok(Some(new)));
-    assert_eq!(pins.inspect_second(b"a.B", 2000), Ok(Some(old)));
+    let new = pins.inspect(b"A.b", 2000).expect("an inspection");
+    let new = new.expect("a record");
+    assert_eq!((new.floor, new.initial), (5, 1700));
+    assert_eq!((new.end, new.minutes_left), (None, None));
+    let old = pins.inspect_second(b"a.B", 2000).expect("an inspection");
+    let old = old.expect("a record");
+    assert_eq!((old.floor, old.initial), (3, 1000));
+    assert_eq!((old.end, old.minutes_left), (Some(2400), Some(400)));
 }
 
 #[test]
@@ -76,19 +67,11 @@ fn in_edition_one_there_is_no_second_record() {
     assert_eq!(pins.inspect_second(b"a.b", 0), Ok(None));
     let tack = [&[0x11; 64][..], &[3, 3], &[0xff; 4], &HASH, &[0x55; 64]].concat();
     let mut extension = [0; 170];
-    tack::extension::write(&tack, &[], 1, &mut extension)
+    tack::extension::write(&tack, &[], true, &mut extension)
         .expect("its parts have the right lengths");
-    let connection = tack::table::Connection {
-        clock: 1000,
-        name: b"a.b",
-        extension: Some(&extension),
-        spki_sha256: &HASH,
-        handshake_finished: true,
-        key_is_point: true,
-        signature_correct: true,
-        breaks_correct: 0,
-    };
-    pins.judge(&connection).expect("a verdict");
+    let connection = Connection::new(1000, b"a.b", &HASH, Checks::all_passed());
+    let judged = pins.judge(&connection.with_extension(&extension));
+    assert!(judged.is_ok());
     assert!(pins
         .inspect(b"a.b", 1000)
         .is_ok_and(|found| found.is_some()));

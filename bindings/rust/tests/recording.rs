@@ -1,22 +1,18 @@
 //! Recorded calls through the safe crate: the longest and the shortest, what cannot be recorded, and an output too small.
 
-use tack::night::{self, NotRecordable, LONGEST_CALL};
+use tack::night::{self, LONGEST_CALL};
 use tack::raw;
-use tack::table::Connection;
+use tack::table::{Checks, Connection};
 
 const HASH: [u8; 33] = [0x77; 33];
 
 fn call<'a>(name: &'a [u8], extension: Option<&'a [u8]>) -> Connection<'a> {
-    Connection {
-        clock: u64::from(u32::MAX),
-        name,
-        extension,
-        spki_sha256: &HASH[..32],
-        handshake_finished: true,
-        key_is_point: false,
-        signature_correct: true,
-        breaks_correct: 0xa5,
-    }
+    let checks = Checks::all_passed()
+        .with_key_is_point(false)
+        .with_breaks_correct(0xa5);
+    let mut call = Connection::new(u64::from(u32::MAX), name, &HASH[..32], checks);
+    call.extension = extension;
+    call
 }
 
 #[test]
@@ -50,19 +46,19 @@ fn the_shortest_and_the_longest() {
 fn each_part_that_cannot_be_recorded() {
     let (name, extension) = ([0; 301], [0; 4097]);
     let good = call(&name[1..], Some(&extension[1..]));
-    #[rustfmt::skip]
     let refused = [
-        Connection { clock: 1 << 32, ..good },
-        Connection { clock: u64::MAX, ..good },
-        Connection { name: &name, ..good },
-        Connection { spki_sha256: &HASH[..31], ..good },
-        Connection { spki_sha256: &HASH, ..good },
-        Connection { spki_sha256: &[], ..good },
-        Connection { extension: Some(&extension), ..good },
+        good.with_clock(1 << 32),
+        good.with_clock(u64::MAX),
+        good.with_name(&name),
+        good.with_spki_sha256(&HASH[..31]),
+        good.with_spki_sha256(&HASH),
+        good.with_spki_sha256(&[]),
+        good.with_extension(&extension),
     ];
     let mut night = vec![1, 2, 3];
     for connection in refused {
-        assert_eq!(night::record(&connection, &mut night), Err(NotRecordable));
+        let refused = night::record(&connection, &mut night).expect_err("it is refused");
+        assert_eq!(refused.number(), 25);
         assert_eq!(night, [1, 2, 3]);
     }
     assert_eq!(night::record(&good, &mut night), Ok(()));
@@ -99,5 +95,4 @@ fn no_space() {
     let answer = raw::call_write(&good, &mut out);
     assert_eq!((answer.number, answer.alert, answer.written), (9, 0, 54));
     assert_eq!(out[51..], [6, 0, 0, 7]);
-    assert_eq!(NotRecordable.number(), 25);
 }

@@ -3,8 +3,7 @@
 mod common;
 
 use common::{good, shown, HASH};
-use tack::raw;
-use tack::table::{Connection, Edition, PinTable, Refusal};
+use tack::table::{Checks, Edition, PinTable, Refusal};
 
 #[test]
 fn each_refusal_of_the_judge() {
@@ -15,47 +14,44 @@ fn each_refusal_of_the_judge() {
     pins.judge(&good).expect("a verdict");
     let before = pins.clone();
 
+    let checks = good.checks;
     #[rustfmt::skip]
     let refused = [
-        (12, Connection { name: b"a_b", ..good }),
-        (13, Connection { clock: 4_294_924_096, ..good }),
-        (14, Connection { clock: 999, ..good }),
-        (15, Connection { handshake_finished: false, ..good }),
-        (16, Connection { extension: Some(&[]), ..good }),
-        (17, Connection { breaks_correct: 0xfe, ..good }),
-        (18, Connection { key_is_point: false, ..good }),
-        (19, Connection { extension: Some(&inconsistent), ..good }),
-        (20, Connection { spki_sha256: &HASH[1..], ..good }),
-        (21, Connection { signature_correct: false, ..good }),
-        (22, Connection { extension: Some(&second), ..good }),
-        (23, Connection { clock: 1001, extension: Some(&expiring), ..good }),
+        (12, 0, good.with_name(b"a_b")),
+        (13, 0, good.with_clock(4_294_924_096)),
+        (14, 0, good.with_clock(999)),
+        (15, 0, good.with_checks(checks.with_handshake_finished(false))),
+        (16, 50, good.with_extension(&[])),
+        (17, 51, good.with_checks(checks.with_breaks_correct(0xfe))),
+        (18, 51, good.with_checks(checks.with_key_is_point(false))),
+        (19, 50, good.with_extension(&inconsistent)),
+        (20, 47, good.with_spki_sha256(&HASH[1..])),
+        (21, 51, good.with_checks(checks.with_signature_correct(false))),
+        (22, 44, good.with_extension(&second)),
+        (23, 45, good.with_clock(1001).with_extension(&expiring)),
     ];
-    for (number, connection) in refused {
-        let refusal = pins.judge(&connection).expect_err("it is refused");
-        assert_eq!(Some(refusal), Refusal::of(number));
-        assert_eq!(
-            refusal.alert(Edition::One),
-            library_alert(&pins, &connection),
-            "{refusal}"
-        );
-        assert!(pins == before, "{refusal}: the table changed");
+    for (number, alert, connection) in refused {
+        let refused = pins.judge(&connection).expect_err("it is refused");
+        assert_eq!((refused.number(), refused.alert()), (number, alert));
+        assert_eq!(Refusal::try_from(number), Ok(refused.refusal()));
+        assert!(pins == before, "{refused}: the table changed");
     }
 }
 
-/// The alert that the library itself gives.
-fn library_alert(pins: &PinTable, connection: &Connection) -> u8 {
-    let arguments = raw::Connection {
-        clock: connection.clock,
-        name: connection.name,
-        extension_came: connection.extension.is_some(),
-        extension: connection.extension.unwrap_or(&[]),
-        spki_sha256: connection.spki_sha256,
-        handshake_finished: connection.handshake_finished,
-        key_is_point: connection.key_is_point,
-        signature_correct: connection.signature_correct,
-        breaks_correct: connection.breaks_correct,
-    };
-    raw::judge(&mut pins.as_bytes().clone(), &arguments).alert
+#[test]
+fn without_a_check_all_is_refused() {
+    let third = shown(3, 3, u32::MAX);
+    let mut pins = PinTable::new();
+    for connection in [good(&third), good(&third).without_extension()] {
+        let refused = pins.judge(&connection.with_checks(Checks::default()));
+        let refused = refused.expect_err("it is refused");
+        assert_eq!(refused.refusal(), Refusal::HandshakeNotFinished);
+    }
+    let finished = Checks::default().with_handshake_finished(true);
+    let refused = pins.judge(&good(&third).with_checks(finished));
+    let refused = refused.expect_err("it is refused");
+    assert_eq!(refused.refusal(), Refusal::BreakSignatureIncorrect);
+    assert!(pins == PinTable::new());
 }
 
 #[test]
@@ -66,10 +62,9 @@ fn a_kept_table_goes_on() {
     let kept = pins.as_bytes().to_vec();
     let again = PinTable::from_bytes(&kept).expect("a sound table");
     assert!(again == pins);
-    assert_eq!(
-        again.inspect(b"a.b", 4_294_924_096),
-        Err(Refusal::ClockAboveLimit)
-    );
+    let refused = again.inspect(b"a.b", 4_294_924_096);
+    let refused = refused.expect_err("it is refused");
+    assert_eq!(refused.refusal(), Refusal::ClockAboveLimit);
     pins.start(Edition::One);
     assert!(pins == PinTable::new());
 }
@@ -80,16 +75,10 @@ fn a_table_of_edition_two_is_the_other_edition() {
     let mut pins = PinTable::of_edition(Edition::Two);
     let before = pins.clone();
     // 27 comes before 12, whatever else is wrong.
-    let malformed = Connection {
-        name: b"",
-        ..good(&third)
-    };
-    for connection in [good(&third), malformed] {
-        assert_eq!(pins.judge(&connection), Err(Refusal::OtherEdition));
-        assert_eq!(library_alert(&pins, &connection), 0);
+    for connection in [good(&third), good(&third).with_name(b"")] {
+        let refused = pins.judge(&connection).expect_err("it is refused");
+        assert_eq!(refused.refusal(), Refusal::OtherEdition);
+        assert_eq!((refused.number(), refused.alert()), (27, 0));
         assert!(pins == before);
-    }
-    for edition in [Edition::One, Edition::Two] {
-        assert_eq!(Refusal::OtherEdition.alert(edition), 0);
     }
 }

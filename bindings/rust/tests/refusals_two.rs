@@ -4,8 +4,7 @@
 mod common_two;
 
 use common_two::{good, shown, tack, with_two_pins, Tack, HASH};
-use tack::raw;
-use tack::table::{ConnectionTwo, Edition, PinTable, Refusal};
+use tack::table::{ChecksTwo, ConnectionTwo, PinTable, Refusal, Refused};
 
 /// The faults of a tack, in the order in which they are looked for; the last after all others of both tacks.
 const FAULTS: [Refusal; 6] = [
@@ -17,30 +16,12 @@ const FAULTS: [Refusal; 6] = [
     Refusal::GenerationRevoked,
 ];
 
-/// The refusal, after a look at its alert and at the table.
-fn refused(pins: &mut PinTable, connection: &ConnectionTwo) -> Refusal {
+/// The refusal, after a look at the table.
+fn refused(pins: &mut PinTable, connection: &ConnectionTwo) -> Refused {
     let before = pins.clone();
-    let refusal = pins.judge_two(connection).expect_err("it is refused");
-    let alert = library_alert(pins, connection);
-    assert_eq!(refusal.alert(Edition::Two), alert, "{refusal}");
-    assert!(*pins == before, "{refusal}: the table changed");
-    refusal
-}
-
-/// The alert that the library itself gives.
-fn library_alert(pins: &PinTable, connection: &ConnectionTwo) -> u8 {
-    let bits = |[first, second]: [bool; 2]| u8::from(first) | u8::from(second) << 1;
-    let arguments = raw::ConnectionTwo {
-        clock: connection.clock,
-        name: connection.name,
-        extension_came: connection.extension.is_some(),
-        extension: connection.extension.unwrap_or(&[]),
-        spki_sha256: connection.spki_sha256,
-        handshake_finished: connection.handshake_finished,
-        keys_are_points: bits(connection.keys_are_points),
-        signatures_correct: bits(connection.signatures_correct),
-    };
-    raw::judge_two(&mut pins.as_bytes().clone(), &arguments).alert
+    let refused = pins.judge_two(connection).expect_err("it is refused");
+    assert!(*pins == before, "{refused}: the table changed");
+    refused
 }
 
 /// A tack with those of the faults that stand in its bytes, for floor 3 and clock 1000.
@@ -61,56 +42,55 @@ fn with_faults(key: u8, faults: &[Refusal]) -> Tack {
 }
 
 /// The refusal of two tacks with these keys and these faults.
-fn of_faults(keys: [u8; 2], faults: [&[Refusal]; 2]) -> Refusal {
+fn of_faults(keys: [u8; 2], faults: [&[Refusal]; 2]) -> Refused {
     let tacks = [0, 1].map(|index| with_faults(keys[index], faults[index]));
     let extension = shown(&tacks, 0b11);
     let without = |fault| faults.map(|faults| !faults.contains(&fault));
-    let connection = ConnectionTwo {
-        keys_are_points: without(Refusal::KeyNotAPoint),
-        signatures_correct: without(Refusal::TackSignatureIncorrect),
-        ..good(&extension)
-    };
-    refused(&mut with_two_pins(), &connection)
+    let checks = ChecksTwo::all_passed()
+        .with_keys_are_points(without(Refusal::KeyNotAPoint))
+        .with_signatures_correct(without(Refusal::TackSignatureIncorrect));
+    refused(&mut with_two_pins(), &good(&extension).with_checks(checks))
 }
 
 #[test]
 fn each_refusal_before_the_tacks() {
     let both = shown(&[tack(0x11), tack(0x22)], 0b11);
     let good = good(&both);
-    #[rustfmt::skip]
     let expected = [
-        (12, 0, ConnectionTwo { name: b"a_b", ..good }),
-        (13, 0, ConnectionTwo { clock: 4_294_924_096, ..good }),
-        (14, 0, ConnectionTwo { clock: 999, ..good }),
-        (15, 0, ConnectionTwo { handshake_finished: false, ..good }),
-        (16, 42, ConnectionTwo { extension: Some(&[]), ..good }),
+        (12, 0, good.with_name(b"a_b")),
+        (13, 0, good.with_clock(4_294_924_096)),
+        (14, 0, good.with_clock(999)),
+        (
+            15,
+            0,
+            good.with_checks(good.checks.with_handshake_finished(false)),
+        ),
+        (16, 42, good.with_extension(&[])),
     ];
     for (number, alert, connection) in expected {
-        let refusal = refused(&mut with_two_pins(), &connection);
-        assert_eq!(Some(refusal), Refusal::of(number));
-        assert_eq!(refusal.alert(Edition::Two), alert);
+        let refused = refused(&mut with_two_pins(), &connection);
+        assert_eq!((refused.number(), refused.alert()), (number, alert));
+        assert_eq!(Refusal::try_from(number), Ok(refused.refusal()));
     }
 }
 
 #[test]
 fn each_fault_of_either_tack() {
     for (fault, alert) in FAULTS.into_iter().zip([42, 42, 45, 42, 42, 44]) {
-        assert_eq!(of_faults([0x11, 0x22], [&[fault], &[]]), fault);
-        assert_eq!(of_faults([0x11, 0x22], [&[], &[fault]]), fault);
-        assert_eq!(fault.alert(Edition::Two), alert, "{fault}");
+        for faults in [[&[fault][..], &[]], [&[], &[fault]]] {
+            let refused = of_faults([0x11, 0x22], faults);
+            assert_eq!((refused.refusal(), refused.alert()), (fault, alert));
+        }
     }
 }
 
 #[test]
 fn two_tacks_with_one_key() {
     for faults in [&[][..], &FAULTS] {
-        assert_eq!(
-            of_faults([0x22, 0x22], [faults, faults]),
-            Refusal::OneKeyTwice
-        );
+        let refused = of_faults([0x22, 0x22], [faults, faults]);
+        assert_eq!(refused.refusal(), Refusal::OneKeyTwice);
+        assert_eq!((refused.number(), refused.alert()), (24, 42));
     }
-    assert_eq!(Refusal::OneKeyTwice.number(), 24);
-    assert_eq!(Refusal::OneKeyTwice.alert(Edition::Two), 42);
 }
 
 /// The faults of the first tack, then those of the second, and the revoked generation of either behind both.
@@ -118,29 +98,24 @@ fn two_tacks_with_one_key() {
 fn the_order_of_the_faults() {
     for from in 0..5 {
         let faults = [&FAULTS[from..], &FAULTS];
-        assert_eq!(of_faults([0x11, 0x22], faults), FAULTS[from]);
+        assert_eq!(of_faults([0x11, 0x22], faults).refusal(), FAULTS[from]);
     }
     for from in 0..6 {
         let faults = [&FAULTS[5..], &FAULTS[from..]];
-        assert_eq!(of_faults([0x11, 0x22], faults), FAULTS[from]);
+        assert_eq!(of_faults([0x11, 0x22], faults).refusal(), FAULTS[from]);
     }
 }
 
 #[test]
 fn answers_about_an_absent_tack_are_ignored() {
     let first = shown(&[tack(0x11)], 0b1);
-    let connection = ConnectionTwo {
-        keys_are_points: [true, false],
-        signatures_correct: [true, false],
-        ..good(&first)
-    };
+    let checks = ChecksTwo::default().with_handshake_finished(true);
+    let of_first = checks
+        .with_keys_are_points([true, false])
+        .with_signatures_correct([true, false]);
+    let connection = good(&first).with_checks(of_first);
     assert!(with_two_pins().judge_two(&connection).is_ok());
-    let none = ConnectionTwo {
-        extension: None,
-        keys_are_points: [false, false],
-        signatures_correct: [false, false],
-        ..connection
-    };
+    let none = connection.without_extension().with_checks(checks);
     assert!(with_two_pins().judge_two(&none).is_ok());
 }
 
@@ -148,13 +123,9 @@ fn answers_about_an_absent_tack_are_ignored() {
 fn a_table_of_edition_one_is_the_other_edition() {
     let both = shown(&[tack(0x11), tack(0x22)], 0b11);
     // 27 comes before 12, whatever else is wrong.
-    let malformed = ConnectionTwo {
-        name: b"",
-        ..good(&both)
-    };
-    for connection in [good(&both), malformed] {
-        let refusal = refused(&mut PinTable::new(), &connection);
-        assert_eq!(refusal, Refusal::OtherEdition);
-        assert_eq!((refusal.number(), refusal.alert(Edition::Two)), (27, 0));
+    for connection in [good(&both), good(&both).with_name(b"")] {
+        let refused = refused(&mut PinTable::new(), &connection);
+        assert_eq!(refused.refusal(), Refusal::OtherEdition);
+        assert_eq!((refused.number(), refused.alert()), (27, 0));
     }
 }

@@ -3,7 +3,7 @@
 mod common;
 
 use common::{good, shown};
-use tack::table::{Connection, Deletion, Inspection, PinTable, Refusal, Verdict};
+use tack::table::{Deletion, PinTable, Refusal, Verdict};
 
 const SPELLINGS: [&[u8]; 3] = [b"Desk.Example", b"desk.example", b"DESK.EXAMPLE"];
 
@@ -14,10 +14,7 @@ const FIRST_NAME: usize = 4616 + 16;
 fn learnt_as(name: &[u8]) -> PinTable {
     let mut pins = PinTable::new();
     let third = shown(3, 3, u32::MAX);
-    let judged = pins.judge(&Connection {
-        name,
-        ..good(&third)
-    });
+    let judged = pins.judge(&good(&third).with_name(name));
     assert_eq!(judged.map(|given| given.verdict), Ok(Verdict::Unpinned));
     pins
 }
@@ -42,15 +39,8 @@ fn the_table_is_that_of_the_small_spelling() {
 fn judging_finds_the_pin() {
     let third = shown(3, 3, u32::MAX);
     for (mut pins, name) in pairs() {
-        let again = Connection {
-            clock: 1600,
-            name,
-            ..good(&third)
-        };
-        let silent = Connection {
-            extension: None,
-            ..again
-        };
+        let again = good(&third).with_clock(1600).with_name(name);
+        let silent = again.without_extension();
         for (connection, verdict) in [(again, Verdict::Confirmed), (silent, Verdict::Contradicted)]
         {
             let judged = pins.judge(&connection);
@@ -61,14 +51,11 @@ fn judging_finds_the_pin() {
 
 #[test]
 fn inspection_finds_the_pin() {
-    let record = Inspection {
-        floor: 3,
-        initial: 1000,
-        end: None,
-        minutes_left: None,
-    };
     for (pins, name) in pairs() {
-        assert_eq!(pins.inspect(name, 1000), Ok(Some(record)));
+        let record = pins.inspect(name, 1000).expect("an inspection");
+        let record = record.expect("a record");
+        assert_eq!((record.floor, record.initial), (3, 1000));
+        assert_eq!((record.end, record.minutes_left), (None, None));
     }
 }
 
@@ -88,7 +75,8 @@ fn a_table_that_holds_a_capital_is_damaged() {
     let mut bytes = learnt_as(b"desk.example").as_bytes().to_vec();
     assert!(PinTable::from_bytes(&bytes).is_ok());
     bytes[FIRST_NAME] = b'D';
-    assert_eq!(PinTable::from_bytes(&bytes), Err(Refusal::Damaged));
+    let refused = PinTable::from_bytes(&bytes).expect_err("it is damaged");
+    assert_eq!(refused.refusal(), Refusal::Damaged);
 }
 
 #[test]

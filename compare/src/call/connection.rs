@@ -2,6 +2,7 @@
 
 use crate::wire::HASH;
 use tack::raw;
+use tack::table::Checks;
 
 #[derive(Debug, Clone)]
 pub struct Connection {
@@ -57,15 +58,15 @@ impl Connection {
     }
 
     pub fn for_safe_crate(&self) -> tack::table::Connection<'_> {
-        tack::table::Connection {
-            clock: self.clock,
-            name: &self.name,
-            extension: self.extension_came.then_some(&self.extension[..]),
-            spki_sha256: &self.hash,
-            handshake_finished: self.handshake_finished,
-            key_is_point: self.key_is_point,
-            signature_correct: self.signature_correct,
-            breaks_correct: self.breaks_correct,
+        let checks = Checks::default()
+            .with_handshake_finished(self.handshake_finished)
+            .with_key_is_point(self.key_is_point)
+            .with_signature_correct(self.signature_correct)
+            .with_breaks_correct(self.breaks_correct);
+        let connection = tack::table::Connection::new(self.clock, &self.name, &self.hash, checks);
+        match self.extension_came {
+            true => connection.with_extension(&self.extension),
+            false => connection,
         }
     }
 

@@ -75,6 +75,6 @@ fn own_initial(area: &Area, connection: &Connection) -> Option<u32> {
     let bytes = connection.extension_came.then_some(&connection.extension)?;
     let extension = Extension::read(bytes).ok()?;
     let record = area.record(area.find_name(&connection.name)?);
-    let shown = extension.tack()?.public_key() == area.key(record.key_slot);
+    let shown = *extension.tack()?.public_key() == area.key(record.key_slot);
     (shown && extension.activation_enabled()).then_some(record.initial)
 }

@@ -26,17 +26,14 @@ pub struct Shown {
 
 impl Shown {
     fn new(tack: tack::extension::Tack, enabled: bool) -> Shown {
-        let mut shown = Shown {
-            key: [0; 64],
+        Shown {
+            key: *tack.public_key(),
             min_generation: tack.min_generation(),
             generation: tack.generation(),
             expiration: tack.expiration(),
-            target_hash: [0; 32],
+            target_hash: *tack.target_hash(),
             enabled,
-        };
-        shown.key.copy_from_slice(tack.public_key());
-        shown.target_hash.copy_from_slice(tack.target_hash());
-        shown
+        }
     }
 }
 

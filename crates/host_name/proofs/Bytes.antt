@@ -1,4 +1,4 @@
--- Which bytes stand in labels and in names. Assumes nothing.
+-- Which bytes stand in labels and in names.
 use mathlib.Core.Path.{_≡_, refl}
 use mathlib.Core.Bool.{true, false, and-false, or-true, or-false, false≢true, true≢false}
 use mathlib.Core.List.{List, [], _∷_}

@@ -1,4 +1,4 @@
--- A name cut at 254 bytes: no more are needed to see whether it is well-formed. Assumes nothing.
+-- A name cut at 254 bytes: no more are needed to see whether it is well-formed.
 use mathlib.Core.Path.{_≡_, sym, _∙_, ap}
 use mathlib.Core.Logic.{_⊎_, inl, inr}
 use mathlib.Core.Bool.{false}

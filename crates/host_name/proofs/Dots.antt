@@ -1,4 +1,4 @@
--- The part before the first dot and the parts behind it are the parts between dots. Assumes nothing.
+-- The part before the first dot and the parts behind it are the parts between dots.
 use mathlib.Core.Path.{_≡_, refl}
 use mathlib.Core.Bool.{cond}
 use mathlib.Core.List.{List, [], _∷_}

@@ -1,4 +1,4 @@
--- The folded name's bytes, a turn of the loop that writes them, and what is then in the array. Assumes nothing.
+-- The folded name's bytes, a turn of the loop that writes them, and what is then in the array.
 use mathlib.Core.Path.{_≡_, refl, sym, _∙_, ap, ap₂}
 use mathlib.Core.List.{List, [], _∷_}
 use Prim.Native.Nat.{ℕ, zero, suc, _+_, _≤_, _<_, min}

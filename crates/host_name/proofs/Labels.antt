@@ -1,4 +1,4 @@
--- A name from the first byte of a label on. Assumes nothing.
+-- A name from the first byte of a label on.
 use mathlib.Core.Path.{_≡_, refl}
 use mathlib.Core.Bool.{true, false, not, _&&_, and-false, false≢true}
 use mathlib.Core.List.{List, [], _∷_}

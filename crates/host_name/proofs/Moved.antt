@@ -1,4 +1,4 @@
--- A name that was copied to the end of an array. Assumes nothing.
+-- A name that was copied to the end of an array.
 use mathlib.Core.Path.{_≡_, ap, _∙_}
 use mathlib.Core.Bool.{true}
 use mathlib.Core.List.{List, _++_, append-nil}

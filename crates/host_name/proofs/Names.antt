@@ -1,4 +1,4 @@
--- The test is the paper's sentence: it takes exactly the names of at most 253 bytes. Assumes nothing.
+-- The test is the paper's sentence: it takes exactly the names of at most 253 bytes.
 use mathlib.Core.Path.{_≡_, refl}
 use mathlib.Core.Bool.{true, false≢true}
 use mathlib.Core.List.{List, [], _∷_, _++_, append-nil}

@@ -1,4 +1,4 @@
--- What `in_label` answers, by what it finds at the end of the label. Assumes nothing.
+-- What `in_label` answers, by what it finds at the end of the label.
 use mathlib.Core.Path.{_≡_}
 use mathlib.Core.Bool.{true, false, not, _&&_, and-false}
 use mathlib.Core.List.{List, _∷_}

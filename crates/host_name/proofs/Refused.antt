@@ -1,4 +1,4 @@
--- 'Upper case and a final dot are refused', of a name as it stands: a call's name is folded before. Assumes nothing.
+-- 'Upper case and a final dot are refused', of a name as it stands: a call's name is folded before.
 use mathlib.Core.Path.{_≡_}
 use mathlib.Core.Bool.{Bool, false, and-false}
 use mathlib.Core.List.{List, [], _∷_, _++_}

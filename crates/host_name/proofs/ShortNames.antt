@@ -1,4 +1,4 @@
--- A name of at most 63 bytes has no label that is too long: its neighbours say whether it is well-formed. Assumes nothing.
+-- A name of at most 63 bytes has no label that is too long: its neighbours say whether it is well-formed.
 use mathlib.Core.Path.{_≡_, refl, sym, ap, ap₂, _∙_}
 use mathlib.Core.Bool.{Bool, true, false, not, _&&_, false≢true}
 use mathlib.Core.List.{List, [], _∷_}

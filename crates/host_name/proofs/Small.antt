@@ -1,4 +1,4 @@
--- Names without capitals: folding leaves them as they are, and a well-formed name is one. Assumes nothing.
+-- Names without capitals: folding leaves them as they are, and a well-formed name is one.
 use mathlib.Core.Path.{_≡_, refl, ap, ap₂}
 use mathlib.Core.Bool.{Bool, true, false, cond, not, and-false, false≢true}
 use mathlib.Core.List.{List, [], _∷_}

@@ -1,10 +1,11 @@
--- Two names are spellings of one exactly if they fold to the same, so folding merges nothing else. Assumes nothing.
+-- Two names are spellings of one exactly if they fold to the same, so folding merges nothing else.
 use mathlib.Core.Path.{_≡_, refl, sym, ap, ap₂, subst}
 use mathlib.Core.Logic.{_↔_}
 use mathlib.Core.Bool.{Bool, true, false, cond}
 use mathlib.Core.List.{List, [], _∷_}
 use Prim.Native.Nat.{ℕ, _+_}
 use native.Mathlib.Omega.{arith}
+use Rattle.octets.proofs.Options.{clash}
 use Rattle.host_name.specs.Folding.{isCapital, foldedByte, foldedName, Spellings, ended, alike, capital, small}
 use Rattle.host_name.proofs.Small.{its-letter}
 
@@ -31,8 +32,8 @@ spelled-first a b {m} {n} same s = go (isCapital a) (isCapital b) refl refl same
 folded-spelled : (m n : List ℕ) → foldedName m ≡ foldedName n → Spellings m n
 unfolding foldedName
 folded-spelled [] [] e = ended
-folded-spelled [] (b ∷ n) e = let z : _≡_ {A = ℕ} 0 1 = cc in absurd (omega arith)
-folded-spelled (a ∷ m) [] e = let z : _≡_ {A = ℕ} 0 1 = cc in absurd (omega arith)
+folded-spelled [] (b ∷ n) e = clash (cc)
+folded-spelled (a ∷ m) [] e = clash (cc)
 folded-spelled (a ∷ m) (b ∷ n) e =
     let first : foldedByte a ≡ foldedByte b = cc in
     let rest : foldedName m ≡ foldedName n = cc in

@@ -1,4 +1,4 @@
--- One byte further: what the loops and the calls go by. Assumes nothing.
+-- One byte further: what the loops and the calls go by.
 use mathlib.Core.Path.{_≡_, sym}
 use mathlib.Core.Bool.{Bool, true, _&&_, and-assoc, and-true}
 use mathlib.Core.List.{List, [], _∷_}

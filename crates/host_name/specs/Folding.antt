@@ -1,4 +1,4 @@
--- Names in capitals, by document 02, Q-2: 'Accept A-Z and treat it as a-z everywhere'. Assumes nothing.
+-- Names in capitals, by document 02, Q-2: 'Accept A-Z and treat it as a-z everywhere'.
 use Prim.Native.Nat.{ℕ, _+_}
 use mathlib.Core.Path.{_≡_}
 use mathlib.Core.Bool.{Bool, true, cond, not, _&&_}

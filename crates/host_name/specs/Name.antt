@@ -1,4 +1,4 @@
--- Host names, by document 01, 'Names and minutes'. Assumes nothing.
+-- Host names, by document 01, 'Names and minutes'.
 use Prim.Native.Nat.{ℕ, _-_}
 use mathlib.Core.Path.{_≡_}
 use mathlib.Core.Bool.{Bool, true, cond, not, _&&_, _||_}

@@ -1,4 +1,4 @@
--- The bytes of a name, those before its first dot, and a name at the end of an array. Assumes nothing.
+-- The bytes of a name, those before its first dot, and a name at the end of an array.
 -- Only functions below the open ones cite it: a reader of the open contract can skip it.
 use mathlib.Core.Path.{_≡_}
 use Prim.Native.Nat.{ℕ, _≤_}

@@ -1,9 +1,9 @@
--- The tally of a turn, by its answer and by what stands in front of the night's bytes. Assumes nothing.
+-- The tally of a turn, by its answer and by what stands in front of the night's bytes.
 use mathlib.Core.Path.{_≡_, refl, sym, ap, _∙_}
 use mathlib.Core.List.{List}
 use Prim.Native.Nat.{ℕ}
 use Rattle.tally.specs.Tally.{counted}
-use Rattle.pin_model.specs.Judge.{Connection}
+use Rattle.pin_model.specs.Connection.{Connection}
 use Rattle.recorded_call.specs.RecordedCall.{Front, taken, cutOff, bad}
 use Rattle.night_play.specs.Turns.{turnBy, countsAfter, countsBy}
 use Rattle.night_play.specs.declared.Turn.{Turn}

@@ -1,6 +1,7 @@
 // One turn of a replay: the call in front of the bytes is read and judged, and its line is written.
 use night_report::text;
 use pin_answers::Judgement;
+use pin_model::Checks;
 use recorded_call::reader;
 use recorded_call::reader::Taken;
 use tally::Tally;
@@ -9,10 +10,11 @@ ghost use mathlib.Core.Bool.{true};
 ghost use Prim.Native.Nat.{_+_, _≤_, _<_, _/_, _%_};
 ghost use lib.Dec.{eqb};
 ghost use lib.ListN.{length};
+ghost use Rattle.octets.specs.Octets.{part};
 ghost use Rattle.pin_model.specs.Sound.{sound};
 ghost use Rattle.pin_model.specs.Calls as calls;
 ghost use Rattle.pin_answers.specs.Numbers.{judgementAnswer};
-ghost use Rattle.recorded_call.specs.RecordedCall.{recorded};
+ghost use Rattle.recorded_call.specs.RecordedCall.{checksOf, recorded};
 ghost use Rattle.recorded_call.specs.Places.{callAt, extensionAt, Ordered};
 ghost use Rattle.night_play.specs.Turns.{turnBy, areaBy, outBy, Within, countsAfter, countsBy};
 
@@ -33,6 +35,20 @@ fn is_yes(answers: u8, power: u8) -> bool
     ensures { λ r. ⌜ r ≡ eqb (answers / power % 2) 1 ⌝ }
 {
     answers / power % 2 == 1
+}
+
+// The caller's answers, which stand in the two bytes from `at`.
+fn checks_at(night: &[u8], at: usize) -> Checks
+    requires { ⌜ at + 2 ≤ length (now night) ⌝ }
+    ensures { λ r. ⌜ r ≡ checksOf (part (now (night .entry)) at 2) ⌝ }
+{
+    let answers = night[at];
+    Checks {
+        handshake_finished: is_yes(answers, 1),
+        key_is_point: is_yes(answers, 2),
+        signature_correct: is_yes(answers, 4),
+        breaks_correct: night[at + 1],
+    }
 }
 
 fn has_no_room(j: Judgement) -> bool
@@ -68,12 +84,11 @@ fn judge_call(
     after: usize,
 ) -> Judgement
     requires { ⌜ Ordered (now night) «name_end» «extension_came» after × (sound (now area) ≡ true) ⌝ }
-    ensures answer { λ r. ⌜ judgementAnswer r ≡ calls.answer (calls.folded (calls.judge (callAt (now (night .entry)) «name_end» «extension_came» after))) (now (area .entry)) ⌝ }
-    ensures area { λ _. ⌜ now (area .exit) ≡ calls.areaAfter (calls.folded (calls.judge (callAt (now (night .entry)) «name_end» «extension_came» after))) (now (area .entry)) ⌝ }
+    ensures answer { λ r. ⌜ judgementAnswer r ≡ calls.answered (calls.judge (callAt (now (night .entry)) «name_end» «extension_came» after)) (now (area .entry)) ⌝ }
+    ensures area { λ _. ⌜ now (area .exit) ≡ calls.areaLeft (calls.judge (callAt (now (night .entry)) «name_end» «extension_came» after)) (now (area .entry)) ⌝ }
     ensures sound { λ _. ⌜ sound (now (area .exit)) ≡ true ⌝ }
 {
     let hash_at = name_end + 8;
-    let answers = night[name_end + 3];
     pin_judge::judge_sound_area(
         area,
         octets::u32_at(night, 3) as u64,
@@ -81,10 +96,7 @@ fn judge_call(
         extension_came,
         extension_at(night, name_end, extension_came, after),
         &night[hash_at..hash_at + 32],
-        is_yes(answers, 1),
-        is_yes(answers, 2),
-        is_yes(answers, 4),
-        night[name_end + 4],
+        checks_at(night, name_end + 3),
     )
 }
 

@@ -1,7 +1,7 @@
--- What `decimal` writes: digits alone, no zero in front, and read back they give the number. Assumes nothing.
+-- What `decimal` writes: digits alone, no zero in front, and read back they give the number.
 use mathlib.Core.Path.{_≡_, refl, sym, ap, _∙_}
 use mathlib.Core.Logic.{⊎-elim}
-use mathlib.Core.Bool.{Bool, true, cond, _&&_}
+use mathlib.Core.Bool.{Bool, true, _&&_}
 use mathlib.Core.List.{List, [], _∷_, _++_}
 use Prim.Native.Nat.{ℕ, zero, suc, _+_, _-_, _*_, _/_, _%_, _^_, _≤_, _<_}
 use native.Mathlib.Nat.{pow-suc, div-lt-iff-lt-mul}
@@ -24,7 +24,7 @@ enough (suc k) (suc m) n h l =
     (λ e. let ten : 10 ≤ n = ltb-false n 10 e in
     simp e (ap (λ (s : List ℕ). s ++ ((48 + n % 10) ∷ [])) (enough k m (n / 10) (omega arith) (omega arith))))
 
-pub decimal-within : (k n : ℕ) → n < k → digitsWithin k n ≡ decimal n
+decimal-within : (k n : ℕ) → n < k → digitsWithin k n ≡ decimal n
 unfolding decimal
 decimal-within k n h = enough k (suc n) n h (omega arith)
 
@@ -37,13 +37,6 @@ pub decimal-high : (n : ℕ) → 10 ≤ n → decimal n ≡ decimal (n / 10) ++ 
 unfolding decimal digitsWithin
 decimal-high n h =
     simp (le-ltb n 10 h) (ap (λ (s : List ℕ). s ++ ((48 + n % 10) ∷ [])) (decimal-within n (n / 10) (omega arith)))
-
-pub decimal-step : (n : ℕ) → decimal n ≡ cond (ltb n 10) ((48 + n) ∷ []) (decimal (n / 10) ++ ((48 + n % 10) ∷ []))
-decimal-step n =
-    ⊎-elim
-    (λ (low : n < 10). rw (lt-ltb n 10 low) (decimal-low n low))
-    (λ (high : 10 ≤ n). rw (le-ltb n 10 high) (decimal-high n high))
-    (below-or n 10)
 
 -- what holds of one digit, and of a number where it holds of its tenth, holds of every number
 byDigits : (P : ℕ → Type 0) → ((n : ℕ) → n < 10 → P n) → ((n : ℕ) → 10 ≤ n → P (n / 10) → P n) → (n : ℕ) → P n

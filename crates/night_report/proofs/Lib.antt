@@ -3,4 +3,3 @@ pub mod Pieces
 pub mod Lines
 pub mod Nights
 pub mod Respelled
-pub mod Example

@@ -1,4 +1,4 @@
--- The report's lines: how long they are, and that their fields written one behind another are the line. Assumes nothing.
+-- The report's lines: how long they are, and that their fields written one behind another are the line.
 use mathlib.Core.Path.{_≡_, refl}
 use mathlib.Core.Bool.{Bool, true, false, cond}
 use mathlib.Core.List.{List, [], _∷_, _++_, append-assoc}
@@ -55,7 +55,7 @@ Short index number alert flag =
 
 -- a call's line by its fields
 module _ (index number : ℕ) (noRoom : Bool) {alert flag : ℕ} (a : alert ≡ alertOf number) (f : flag ≡ cond noRoom 1 0) where
-  line-fields : ((field index 32 ++ field number 32) ++ field alert 32) ++ field flag 10 ≡ lineOf index number noRoom
+  line-fields : ((field index 32 ++ field number 32) ++ field alert 32) ++ field flag 10 ≡ lineOf index number (alertOf number) noRoom
   unfolding lineOf
   line-fields = rw (a, f) (simp append-assoc)
 
@@ -75,13 +75,13 @@ module _ (index number : ℕ) (noRoom : Bool) {alert flag : ℕ} (a : alert ≡ 
       → index < 18446744073709551616 → number < 256 → at + 31 ≤ length b
       → Wrote b at (field index 32) now₁ at₁ → Wrote now₁ at₁ (field number 32) now₂ at₂
       → Wrote now₂ at₂ (field alert 32) now₃ at₃ → Wrote now₃ at₃ (field flag 10) now₄ at₄
-      → Wrote b at (lineOf index number noRoom) now₄ at₄
+      → Wrote b at (lineOf index number (alertOf number) noRoom) now₄ at₄
   line-written b at wide narrow room w₁ w₂ w₃ w₄ =
       rw (← line-fields)
       (four-behind b at (field index 32) (field number 32) (field alert 32) (field flag 10)
       (omega (arith, fields-length wide narrow)) w₁ w₂ w₃ w₄)
 
-pub line-length : (index number : ℕ) (noRoom : Bool) → index < 18446744073709551616 → number < 256 → length (lineOf index number noRoom) ≤ 31
+pub line-length : (index number : ℕ) (noRoom : Bool) → index < 18446744073709551616 → number < 256 → length (lineOf index number (alertOf number) noRoom) ≤ 31
 line-length index number noRoom wide narrow = rw (← line-fields index number noRoom refl refl) (fields-length index number noRoom refl refl wide narrow)
 
 -- the last line

@@ -1,5 +1,5 @@
 -- The report as a stream makes it: each call in front gives its line, and the rest of the night the rest of the report, whatever
--- bytes are still to come. Assumes nothing.
+-- bytes are still to come.
 use mathlib.Core.Path.{_≡_, refl, ap, _∙_}
 use mathlib.Core.Bool.{false}
 use mathlib.Core.List.{List, [], _∷_, _++_, append-assoc}
@@ -7,9 +7,9 @@ use Prim.Native.Nat.{ℕ, zero, suc, _+_, _≤_}
 use native.Mathlib.Nat.{add-zero}
 use native.Mathlib.Omega.{arith}
 use lib.ListN.{length}
-use Rattle.pin_model.specs.Judge.{Connection}
-use Rattle.pin_model.specs.Calls.{Call, judge, folded, answer}
-use Rattle.pin_journal.specs.Demand3.{areaOf}
+use Rattle.pin_model.specs.Connection.{Connection}
+use Rattle.pin_model.specs.Calls.{Call, judge, answered}
+use Rattle.pin_model.specs.Run.{areaOf}
 use Rattle.recorded_call.specs.RecordedCall.{Front, taken, cutOff, bad, field, recorded}
 use Rattle.recorded_call.proofs.Prefix.{taken-longer, bad-longer, taken-shorter}
 use Rattle.night_report.specs.Report.{Night, ends, before, isEmpty, nightBy, nightWithin, nightOf, line, badLine, lines, closing, reportFrom}
@@ -47,7 +47,7 @@ night-by (b ∷ s) =
 module _ (earlier : List Call) (window more : List ℕ) where
   -- a call in front of what was read so far
   pub report-line : (c : Connection) (rest : List ℕ) → recorded window ≡ taken c rest
-      → reportFrom earlier (window ++ more) ≡ line (length earlier) (answer (folded (judge c)) (areaOf false earlier)) ++ reportFrom (judge c ∷ earlier) (rest ++ more)
+      → reportFrom earlier (window ++ more) ≡ line (length earlier) (answered (judge c) (areaOf false earlier)) ++ reportFrom (judge c ∷ earlier) (rest ++ more)
   unfolding reportFrom lines
   report-line c rest e =
       let night : nightOf (window ++ more) ≡ before c (nightOf (rest ++ more)) =
@@ -55,7 +55,7 @@ module _ (earlier : List Call) (window more : List ℕ) where
       let others = nightOf (rest ++ more) in
       let size : length earlier + suc (length (others .calls)) ≡ suc (length earlier) + length (others .calls) = omega arith in
       ap (λ (n : Night). lines earlier (n .calls) ++ closing (length earlier + length (n .calls)) (n .whole)) night
-      ∙ rw size (append-assoc (line (length earlier) (answer (folded (judge c)) (areaOf false earlier))) (lines (judge c ∷ earlier) (others .calls)) (closing (suc (length earlier) + length (others .calls)) (others .whole)))
+      ∙ rw size (append-assoc (line (length earlier) (answered (judge c) (areaOf false earlier))) (lines (judge c ∷ earlier) (others .calls)) (closing (suc (length earlier) + length (others .calls)) (others .whole)))
 
   -- what no further bytes make a call
   pub report-bad : recorded window ≡ bad → reportFrom earlier (window ++ more) ≡ badLine

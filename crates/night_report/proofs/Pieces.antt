@@ -1,4 +1,4 @@
--- Pieces written one behind another are one splice, as the writers' contracts say it. Assumes nothing.
+-- Pieces written one behind another are one splice, as the writers' contracts say it.
 use mathlib.Core.Path.{_≡_, refl, sym, ap, _∙_}
 use mathlib.Core.List.{List, [], _∷_, _++_}
 use Prim.Native.Nat.{ℕ, _+_, _/_, _%_, _≤_, _<_}

@@ -1,10 +1,10 @@
--- The report's lines are the same in every spelling of the names. Assumes nothing.
+-- The report's lines are the same in every spelling of the names.
 use mathlib.Core.Path.{_≡_, refl, ap, ap₂}
 use mathlib.Core.Bool.{false}
 use mathlib.Core.List.{List, [], _∷_, _++_, map}
 use Prim.Native.Nat.{ℕ, suc}
 use lib.ListN.{length}
-use Rattle.pin_model.specs.Judge.{Connection}
+use Rattle.pin_model.specs.Connection.{Connection}
 use Rattle.pin_model.specs.Calls.{Call, judge}
 use Rattle.pin_journal.specs.Spellings.{AllRespelled, ended, each}
 use Rattle.pin_journal.proofs.Main.{one-run}

@@ -1,16 +1,15 @@
--- The report on a night of recorded calls, as text, by document 02, Q-1. Assumes nothing.
+-- The report on a night of recorded calls, as text, by document 02, Q-1.
 use Prim.Native.Nat.{ℕ, zero, suc, _+_, _/_, _%_}
 use mathlib.Core.Bool.{Bool, true, false, cond}
 use mathlib.Core.List.{List, [], _∷_, _++_}
 use lib.ListN.{length}
 use lib.Dec.{ltb}
-use Rattle.tack_extension.specs.Answers.{alertOf}
-use Rattle.pin_model.specs.Judge.{Connection}
-use Rattle.pin_model.specs.Calls.{Call, judge, folded, Answer, answer}
-use Rattle.pin_journal.specs.Demand3.{areaOf, numberOf}
+use Rattle.pin_model.specs.Connection.{Connection}
+use Rattle.pin_model.specs.Calls.{Call, judge, Answer, answered}
+use Rattle.pin_model.specs.Run.{areaOf, numberOf}
 use Rattle.recorded_call.specs.RecordedCall.{Front, taken, cutOff, bad, recorded}
 
--- a number in decimal digits, the highest first; a number has no more digits than its successor says
+-- a number in decimal digits, the highest first; `suc n` digits are enough for n
 unfoldable pub digitsWithin : ℕ → ℕ → List ℕ
 digitsWithin zero n = []
 digitsWithin (suc most) n = cond (ltb n 10) ((48 + n) ∷ []) (digitsWithin most (n / 10) ++ ((48 + n % 10) ∷ []))
@@ -19,19 +18,19 @@ unfoldable pub decimal : ℕ → List ℕ
 decimal n = digitsWithin (suc n) n
 
 -- 'a line per call: index from 0, number, alert, no-room 0 or 1, single spaces, newline'
-unfoldable pub lineOf : ℕ → ℕ → Bool → List ℕ
-lineOf index number noRoom =
+unfoldable pub lineOf : ℕ → ℕ → ℕ → Bool → List ℕ
+lineOf index number alert noRoom =
     decimal index
     ++ ((32 ∷ [])
     ++ (decimal number
     ++ ((32 ∷ [])
-    ++ (decimal (alertOf number)
+    ++ (decimal alert
     ++ ((32 ∷ [])
     ++ (decimal (cond noRoom 1 0)
     ++ (10 ∷ [])))))))
 
 abbrev pub line : ℕ → Answer → List ℕ
-line index a = lineOf index (a .number) (a .noRoom)
+line index a = lineOf index (a .number) (a .alert) (a .noRoom)
 
 -- 'the number of calls as the line `total 2`'
 unfoldable pub totalLine : ℕ → List ℕ
@@ -74,7 +73,7 @@ nightOf s = nightWithin (length s) s
 -- first, in the very run of demand 3
 unfoldable pub lines : List Call → List Connection → List ℕ
 lines earlier [] = []
-lines earlier (c ∷ cs) = line (length earlier) (answer (folded (judge c)) (areaOf false earlier)) ++ lines (judge c ∷ earlier) cs
+lines earlier (c ∷ cs) = line (length earlier) (answered (judge c) (areaOf false earlier)) ++ lines (judge c ∷ earlier) cs
 
 -- 'ends the report without a total'
 abbrev pub closing : ℕ → Bool → List ℕ

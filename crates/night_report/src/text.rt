@@ -5,6 +5,7 @@ ghost use mathlib.Core.List.{_++_};
 ghost use Prim.Native.Nat.{_+_, _≤_};
 ghost use lib.ListN.{length};
 ghost use Rattle.octets.specs.Octets.{put};
+ghost use Rattle.tack_extension.specs.Answers.{alertOf};
 ghost use Rattle.night_report.specs.Report.{decimal, lineOf, totalLine, badLine};
 
 // Writes n in decimal from `at`: the digits of its tenth, and the last one behind them.
@@ -43,7 +44,7 @@ fn flag(yes: bool) -> u64
 // Writes a call's line from `at`: its index, the answer's number, the number's alert, and 'no room' as 0 or 1.
 pub fn put_line(out: &mut [u8], at: usize, index: u64, number: u8, no_room: bool) -> usize
     requires { ⌜ at + 31 ≤ length (now out) ⌝ }
-    ensures { λ r. ⌜ (r ≡ at + length (lineOf index number «no_room»)) × (now (out .exit) ≡ put (now (out .entry)) at (lineOf index number «no_room»)) ⌝ }
+    ensures { λ r. ⌜ (r ≡ at + length (lineOf index number (alertOf number) «no_room»)) × (now (out .exit) ≡ put (now (out .entry)) at (lineOf index number (alertOf number) «no_room»)) ⌝ }
 {
     let answer = number as u64;
     let alert = pin_answers::alert_of(number) as u64;

@@ -1,6 +1,6 @@
--- Laws of `same`, `all` and `allZero`: what a loop that compares has to show. Assumes nothing.
-use mathlib.Core.Path.{_≡_, refl, sym, ap, _∙_}
-use mathlib.Core.Bool.{Bool, true, false, _&&_, false≢true}
+-- Laws of `same`, `all` and `allZero`: what a loop that compares has to show.
+use mathlib.Core.Path.{_≡_, refl, sym, ap, _∙_, subst}
+use mathlib.Core.Bool.{Bool, true, false, false≢true}
 use mathlib.Core.List.{List, [], _∷_}
 use Prim.Native.Nat.{ℕ, zero, suc, _+_, _-_, _≤_, _<_}
 use native.Mathlib.Omega.{arith}
@@ -35,10 +35,14 @@ pub same-turned : (xs ys : List ℕ) → same xs ys ≡ same ys xs
 same-turned xs ys =
     both-ways (same xs ys) (same ys xs) (λ e. same-eq ys xs (sym (same-true xs ys e))) (λ e. same-eq xs ys (sym (same-true ys xs e)))
 
-pub same-differ : (xs ys : List ℕ) (i : ℕ) → (getD xs i 0 ≡ getD ys i 0 → ⊥) → same xs ys ≡ false
+-- both tests pass at one byte string: the two are the same
+pub same-both : (x a b : List ℕ) → same x a ≡ true → same x b ≡ true → same a b ≡ true
+same-both x a b e d = subst (λ (y : List ℕ). same y b ≡ true) (same-true x a e) d
+
+same-differ : (xs ys : List ℕ) (i : ℕ) → (getD xs i 0 ≡ getD ys i 0 → ⊥) → same xs ys ≡ false
 same-differ xs ys i h = is-false (same xs ys) (λ e. h (ap (λ (l : List ℕ). getD l i 0) (same-true xs ys e)))
 
-pub same-all : (xs ys : List ℕ) → length xs ≡ length ys → ((i : ℕ) → i < length xs → getD xs i 0 ≡ getD ys i 0) → same xs ys ≡ true
+same-all : (xs ys : List ℕ) → length xs ≡ length ys → ((i : ℕ) → i < length xs → getD xs i 0 ≡ getD ys i 0) → same xs ys ≡ true
 same-all xs ys e h = same-eq xs ys (ext-getD 0 xs ys e h)
 
 -- a part against a list, from what holds at each place
@@ -76,13 +80,13 @@ unfolding allZero
 are-zeros zero = refl
 are-zeros (suc n) = are-zeros n
 
-pub zero-at : (xs : List ℕ) → allZero xs ≡ true → (i : ℕ) → getD xs i 0 ≡ 0
+zero-at : (xs : List ℕ) → allZero xs ≡ true → (i : ℕ) → getD xs i 0 ≡ 0
 unfolding allZero
 zero-at [] e i = refl
 zero-at (x ∷ xs) e zero = eqb-true x 0 (and-left (eqb x 0) (allZero xs) e)
 zero-at (x ∷ xs) e (suc i) = zero-at xs (and-right (eqb x 0) (allZero xs) e) i
 
-pub zero-each : (xs : List ℕ) → ((i : ℕ) → i < length xs → getD xs i 0 ≡ 0) → allZero xs ≡ true
+zero-each : (xs : List ℕ) → ((i : ℕ) → i < length xs → getD xs i 0 ≡ 0) → allZero xs ≡ true
 zero-each xs h = ap allZero (ext-getD 0 xs (replicate (length xs) 0) (sym (length-replicate (length xs) 0)) (λ i l. h i l ∙ sym (getD-replicate (length xs) i 0 0 l))) ∙ are-zeros (length xs)
 
 -- the same of a part, at the places of the whole

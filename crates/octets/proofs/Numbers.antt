@@ -1,7 +1,6 @@
--- Big-endian numbers of every width: written and read back, read and written back. Assumes nothing.
+-- Big-endian numbers of every width: written and read back, read and written back.
 use mathlib.Core.Path.{_≡_, refl, sym, ap, _∙_}
 use mathlib.Core.List.{List, [], _∷_, _++_, append-assoc, append-nil}
-use mathlib.Core.Logic.{_↔_}
 use Prim.Native.Nat.{ℕ, zero, suc, _+_, _*_, _/_, _%_, _^_, _≤_, _<_}
 use native.Mathlib.Nat.{pow-suc, div-add-mod, div-lt-iff-lt-mul, div-div-eq-div-mul, add-zero}
 use native.Mathlib.Omega.{arith}
@@ -36,7 +35,7 @@ bigEndian-length zero v = refl
 bigEndian-length (suc w) v = length-append (bigEndian w (v / 256)) (v % 256 ∷ []) ∙ ap (λ (k : ℕ). k + 1) (bigEndian-length w (v / 256)) ∙ add-one w
 
 -- one byte more, behind the others
-pub number-snoc : (bs : List ℕ) (b n : ℕ) → numberAfter n (bs ++ (b ∷ [])) ≡ 256 * numberAfter n bs + b
+number-snoc : (bs : List ℕ) (b n : ℕ) → numberAfter n (bs ++ (b ∷ [])) ≡ 256 * numberAfter n bs + b
 unfolding numberAfter
 number-snoc [] b n = refl
 number-snoc (x ∷ bs) b n = number-snoc bs b (256 * n + x)

@@ -1,5 +1,5 @@
--- Laws of parts and of what is put in: the splices that every write to a lent area makes. Assumes nothing.
-use mathlib.Core.Path.{_≡_, refl, sym, ap, _∙_}
+-- Laws of parts and of what is put in: the splices that every write to a lent area makes.
+use mathlib.Core.Path.{_≡_, refl, sym, ap, ap₂, _∙_}
 use mathlib.Core.List.{List, [], _∷_, _++_, append-assoc, append-nil}
 use mathlib.Core.Logic.{⊎-elim}
 use Prim.Native.Nat.{ℕ, zero, suc, _+_, _-_, _≤_, _<_}
@@ -7,7 +7,7 @@ use native.Mathlib.Nat.{add-zero}
 use native.Mathlib.Numerals.{add-one}
 use native.Mathlib.Omega.{arith}
 use lib.ListN.{drop-of-length-le, length, take, drop, getD, set, replicate, length-append, length-take, length-drop, take-append-drop, length-replicate, List·getD-append}
-use lib.Seq.{take-all, take-add, drop-drop, take-suc, length-take-le, getD-take, getD-drop, getD-append-add, take-at, drop-at, ext-getD, set-at, drop-cons, append-snoc}
+use lib.Seq.{take-all, take-add, drop-drop, take-suc, length-take-le, getD-take, getD-drop, getD-append-add, take-at, drop-at, ext-getD, set-at, drop-cons, append-snoc, take-append-le, drop-append-le, take-append-add, drop-append-add}
 use Rattle.octets.specs.Octets.{part, put}
 use Rattle.octets.proofs.Tests.{below-or}
 
@@ -41,18 +41,18 @@ unfolding put
 put-length b at vs h = simp (length-append, length-take, length-drop) (omega arith)
 
 -- what stands at an index of b with vs put in: before, in and behind vs
-pub put-before : (b : List ℕ) (at : ℕ) (vs : List ℕ) (i : ℕ) → at ≤ length b → i < at → getD (put b at vs) i 0 ≡ getD b i 0
+put-before : (b : List ℕ) (at : ℕ) (vs : List ℕ) (i : ℕ) → at ≤ length b → i < at → getD (put b at vs) i 0 ≡ getD b i 0
 unfolding put
 put-before b at vs i h l =
     List·getD-append (take at b) (vs ++ drop (at + length vs) b) 0 i (rw (length-take-le at b h) l) ∙ getD-take at b i 0 l
 
-pub put-behind : (b : List ℕ) (at : ℕ) (vs : List ℕ) (i : ℕ) → at ≤ length b → getD (put b at vs) (at + i) 0 ≡ getD (vs ++ drop (at + length vs) b) i 0
+put-behind : (b : List ℕ) (at : ℕ) (vs : List ℕ) (i : ℕ) → at ≤ length b → getD (put b at vs) (at + i) 0 ≡ getD (vs ++ drop (at + length vs) b) i 0
 unfolding put
 put-behind b at vs i h =
     ap (λ (k : ℕ). getD (take at b ++ (vs ++ drop (at + length vs) b)) (k + i) 0) (sym (length-take-le at b h))
     ∙ getD-append-add (take at b) (vs ++ drop (at + length vs) b) i 0
 
-pub put-in : (b : List ℕ) (at : ℕ) (vs : List ℕ) (i : ℕ) → at ≤ length b → i < length vs → getD (put b at vs) (at + i) 0 ≡ getD vs i 0
+put-in : (b : List ℕ) (at : ℕ) (vs : List ℕ) (i : ℕ) → at ≤ length b → i < length vs → getD (put b at vs) (at + i) 0 ≡ getD vs i 0
 put-in b at vs i h l = put-behind b at vs i h ∙ List·getD-append vs (drop (at + length vs) b) 0 i l
 
 pub put-after : (b : List ℕ) (at : ℕ) (vs : List ℕ) (i : ℕ) → at ≤ length b → at + length vs ≤ i → getD (put b at vs) i 0 ≡ getD b i 0
@@ -65,36 +65,18 @@ put-after b at vs i h l =
     ∙ getD-drop (at + length vs) b j 0
     ∙ ap (λ (k : ℕ). getD b k 0) (omega arith)
 
--- the part that was put in, and a part beside it
-pub part-put : (b : List ℕ) (at : ℕ) (vs : List ℕ) (n : ℕ) → at ≤ length b → length vs ≡ n → part (put b at vs) at n ≡ vs
+-- the part that was put in
+part-put : (b : List ℕ) (at : ℕ) (vs : List ℕ) (n : ℕ) → at ≤ length b → length vs ≡ n → part (put b at vs) at n ≡ vs
 unfolding part put
 part-put b at vs n h e =
     ap (take n) (drop-at (take at b) (vs ++ drop (at + length vs) b) at (length-take-le at b h)) ∙ take-at vs (drop (at + length vs) b) n e
-
-pub part-put-below : (b : List ℕ) (at : ℕ) (vs : List ℕ) (at' n : ℕ) → at + length vs ≤ length b → at' + n ≤ at → part (put b at vs) at' n ≡ part b at' n
-part-put-below b at vs at' n h l =
-    let e : length (put b at vs) ≡ length b = put-length b at vs h in
-    let p : length (part (put b at vs) at' n) ≡ n = part-length (put b at vs) at' n (omega arith) in
-    let q : length (part b at' n) ≡ n = part-length b at' n (omega arith) in
-    ext-getD 0 (part (put b at vs) at' n) (part b at' n) (p ∙ sym q)
-    (λ i k. let m : i < n = omega arith in
-    part-at (put b at vs) at' n i m ∙ put-before b at vs (at' + i) (omega arith) (omega arith) ∙ sym (part-at b at' n i m))
-
-pub part-put-above : (b : List ℕ) (at : ℕ) (vs : List ℕ) (at' n : ℕ) → at + length vs ≤ at' → at' + n ≤ length b → part (put b at vs) at' n ≡ part b at' n
-part-put-above b at vs at' n h l =
-    let e : length (put b at vs) ≡ length b = put-length b at vs (omega arith) in
-    let p : length (part (put b at vs) at' n) ≡ n = part-length (put b at vs) at' n (omega arith) in
-    let q : length (part b at' n) ≡ n = part-length b at' n (omega arith) in
-    ext-getD 0 (part (put b at vs) at' n) (part b at' n) (p ∙ sym q)
-    (λ i k. let m : i < n = omega arith in
-    part-at (put b at vs) at' n i m ∙ put-after b at vs (at' + i) (omega arith) (omega arith) ∙ sym (part-at b at' n i m))
 
 -- a run of stores
 pub put-none : (b : List ℕ) (at : ℕ) → put b at [] ≡ b
 unfolding put
 put-none b at = ap (λ (k : ℕ). take at b ++ drop k b) (add-zero at) ∙ take-append-drop at b
 
-pub put-snoc : (b : List ℕ) (at : ℕ) (vs : List ℕ) (v i : ℕ) → length vs ≡ i → at + i < length b → set (put b at vs) (at + i) v ≡ put b at (vs ++ (v ∷ []))
+put-snoc : (b : List ℕ) (at : ℕ) (vs : List ℕ) (v i : ℕ) → length vs ≡ i → at + i < length b → set (put b at vs) (at + i) v ≡ put b at (vs ++ (v ∷ []))
 unfolding put
 put-snoc b at vs v i e h =
     let k : ℕ = at + length vs in
@@ -111,7 +93,7 @@ set-put b at v h =
     ap (λ (l : List ℕ). set l at v) (sym (put-none b at))
     ∙ ap (λ (k : ℕ). set (put b at []) k v) (sym (add-zero at)) ∙ put-snoc b at [] v 0 refl (rw add-zero h)
 
-pub replicate-snoc : (n v : ℕ) → replicate n v ++ (v ∷ []) ≡ replicate (n + 1) v
+replicate-snoc : (n v : ℕ) → replicate n v ++ (v ∷ []) ≡ replicate (n + 1) v
 replicate-snoc n v = rw add-one (go n)
   where
     go : (m : ℕ) → replicate m v ++ (v ∷ []) ≡ replicate (suc m) v
@@ -137,7 +119,7 @@ store-four b at x y z w h =
     (rw (put-snoc b at (x ∷ y ∷ []) z 2 refl (omega arith))
     (put-snoc b at (x ∷ y ∷ z ∷ []) w 3 refl (omega arith)))
 
--- a part of a part, and a change of a part put back
+-- a part of a part, and a change of a part put in
 pub part-part : (b : List ℕ) (at n i m : ℕ) → at + n ≤ length b → i + m ≤ n → part (part b at n) i m ≡ part b (at + i) m
 part-part b at n i m h l =
     let e : length (part b at n) ≡ n = part-length b at n h in
@@ -146,14 +128,6 @@ part-part b at n i m h l =
     ext-getD 0 (part (part b at n) i m) (part b (at + i) m) (p ∙ sym q)
     (λ j k. let jm : j < m = omega arith in
     part-at (part b at n) i m j jm ∙ part-at b at n (i + j) (omega arith) ∙ ap (λ (x : ℕ). getD b x 0) (omega arith) ∙ sym (part-at b (at + i) m j jm))
-
-pub put-whole : (b : List ℕ) (at n : ℕ) → at + n ≤ length b → put b at (part b at n) ≡ b
-unfolding put part
-put-whole b at n h =
-    ap (λ (m : ℕ). take at b ++ (take n (drop at b) ++ drop (at + m) b)) (part-length b at n h)
-    ∙ ap (λ (l : List ℕ). take at b ++ (take n (drop at b) ++ l)) (sym (drop-drop n at b))
-    ∙ ap (λ (l : List ℕ). take at b ++ l) (take-append-drop n (drop at b))
-    ∙ take-append-drop at b
 
 pub put-nested : (b : List ℕ) (at n i : ℕ) (vs : List ℕ) → at + n ≤ length b → i + length vs ≤ n → put b at (put (part b at n) i vs) ≡ put b (at + i) vs
 put-nested b at n i vs h l =
@@ -185,7 +159,7 @@ put-nested b at n i vs h l =
     (below-or j at))
 
 -- what is put in last stays
-pub put-put : (b : List ℕ) (at : ℕ) (s r : List ℕ) → at + length s ≤ length b → length s ≡ length r → put (put b at s) at r ≡ put b at r
+put-put : (b : List ℕ) (at : ℕ) (s r : List ℕ) → at + length s ≤ length b → length s ≡ length r → put (put b at s) at r ≡ put b at r
 unfolding put
 put-put b at s r h e =
     let la : length (take at b) ≡ at = length-take-le at b (omega arith) in
@@ -197,7 +171,7 @@ put-put b at s r h e =
     ∙ ap (λ (m : ℕ). drop (at + m) b) e)
 
 -- a change inside what was put in
-pub put-inside : (b : List ℕ) (at : ℕ) (s : List ℕ) (i : ℕ) (vs : List ℕ) → at + length s ≤ length b → i + length vs ≤ length s → put (put b at s) (at + i) vs ≡ put b at (put s i vs)
+put-inside : (b : List ℕ) (at : ℕ) (s : List ℕ) (i : ℕ) (vs : List ℕ) → at + length s ≤ length b → i + length vs ≤ length s → put (put b at s) (at + i) vs ≡ put b at (put s i vs)
 put-inside b at s i vs h l =
     let e : length (put b at s) ≡ length b = put-length b at s h in
     let f : part (put b at s) at (length s) ≡ s = part-put b at s (length s) (omega arith) refl in
@@ -208,19 +182,10 @@ set-inside b at s i v h l =
     let e : length (put b at s) ≡ length b = put-length b at s h in
     set-put (put b at s) (at + i) v (omega arith) ∙ put-inside b at s i (v ∷ []) h (rw add-one l) ∙ ap (put b at) (sym (set-put s i v l))
 
--- a part that was lent is back
-pub part-back : (b : List ℕ) (at n : ℕ) (ys : List ℕ) → length ys ≡ n → take at b ++ (ys ++ drop n (drop at b)) ≡ put b at ys
-unfolding put
-part-back b at n ys e = ap (λ (l : List ℕ). take at b ++ (ys ++ l)) (drop-drop n at b ∙ ap (λ (k : ℕ). drop (at + k) b) (sym e))
-
 -- all of it
 pub put-all : (b vs : List ℕ) → length b ≡ length vs → put b 0 vs ≡ vs
 unfolding put
 put-all b vs e = ap (λ (l : List ℕ). vs ++ l) (drop-of-length-le b {i = 0 + length vs} (omega arith)) ∙ append-nil vs
-
--- the same, as a call that was lent the part leaves it
-pub lent-back : (b : List ℕ) (at n : ℕ) (ys : List ℕ) → at + n ≤ length b → length ys ≡ length (take n (drop at b)) → take at b ++ (ys ++ drop n (drop at b)) ≡ put b at ys
-lent-back b at n ys h e = part-back b at n ys (e ∙ length-take-le n (drop at b) (rw (length-drop at b) (omega arith)))
 
 -- one splice behind another is one splice
 pub put-append : (b : List ℕ) (at : ℕ) (xs ys : List ℕ) → at + length xs + length ys ≤ length b → put (put b at xs) (at + length xs) ys ≡ put b at (xs ++ ys)
@@ -240,3 +205,29 @@ put-append b at xs ys h =
     ∙ append-assoc (take at b) xs (ys ++ drop (at + length xs + length ys) b)
     ∙ ap (λ (l : List ℕ). take at b ++ l) (sym (append-assoc xs ys (drop (at + length xs + length ys) b)))
     ∙ ap (λ (k : ℕ). take at b ++ ((xs ++ ys) ++ drop k b)) (sym (ap (λ (k : ℕ). at + k) (length-append xs ys) ∙ n))
+
+-- a part of two lists, and what is put into them
+pub part-left : (xs ys : List ℕ) (at n : ℕ) → at + n ≤ length xs → part (xs ++ ys) at n ≡ part xs at n
+unfolding part
+part-left xs ys at n h =
+    ap (take n) (drop-append-le at xs ys (omega arith)) ∙ take-append-le n (drop at xs) ys (rw (length-drop at xs) (omega arith))
+
+pub part-right : (xs ys : List ℕ) (at n m : ℕ) → length xs ≡ m → part (xs ++ ys) (m + at) n ≡ part ys at n
+unfolding part
+part-right xs ys at n m e = rw (← e) (ap (take n) (drop-append-add xs ys at))
+
+pub put-left : (xs ys vs : List ℕ) (at : ℕ) → at + length vs ≤ length xs → put (xs ++ ys) at vs ≡ put xs at vs ++ ys
+unfolding put
+put-left xs ys vs at h =
+    ap₂ (λ (a b : List ℕ). a ++ (vs ++ b)) (take-append-le at xs ys (omega arith)) (drop-append-le (at + length vs) xs ys h)
+    ∙ ap (λ (l : List ℕ). take at xs ++ l) (sym (append-assoc vs (drop (at + length vs) xs) ys))
+    ∙ sym (append-assoc (take at xs) (vs ++ drop (at + length vs) xs) ys)
+
+pub put-right : (xs ys vs : List ℕ) (at m : ℕ) → length xs ≡ m → put (xs ++ ys) (m + at) vs ≡ xs ++ put ys at vs
+unfolding put
+put-right xs ys vs at m e =
+    let s : length xs + at + length vs ≡ length xs + (at + length vs) = omega arith in
+    rw (← e)
+    (ap₂ (λ (a b : List ℕ). a ++ (vs ++ b)) (take-append-add xs ys at)
+    (ap (λ (n : ℕ). drop n (xs ++ ys)) s ∙ drop-append-add xs ys (at + length vs))
+    ∙ append-assoc xs (take at ys) (vs ++ drop (at + length vs) ys))

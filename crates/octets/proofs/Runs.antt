@@ -1,4 +1,4 @@
--- Pieces written one behind the other: one splice of them all. Assumes nothing.
+-- Pieces written one behind the other: one splice of them all.
 use mathlib.Core.Path.{_≡_, _∙_}
 use mathlib.Core.List.{List, _++_}
 use Prim.Native.Nat.{ℕ, _+_, _≤_}

@@ -1,10 +1,10 @@
--- Laws of `specs/Search.antt`: what a loop over the numbers below n has to show. Assumes nothing.
+-- Laws of `specs/Search.antt`: what a loop over the numbers below n has to show.
 use mathlib.Core.Path.{_≡_, refl, sym, ap, _∙_}
-use mathlib.Core.Bool.{Bool, true, false, not, _&&_, _||_, false≢true, true≢false, and-false, and-true, and-assoc, or-true, or-false, or-assoc}
-use Prim.Native.Nat.{ℕ, zero, suc, _+_, _≤_, _<_, zero-le, suc-le-suc}
+use mathlib.Core.Bool.{Bool, true, false, not, _&&_, _||_, and-false, and-true, and-assoc, false≢true, or-true, or-false, or-assoc}
+use Prim.Native.Nat.{ℕ, zero, suc, _+_, _<_, zero-le, suc-le-suc}
 use native.Mathlib.Nat.{le-of-suc-le-suc, not-suc-le-zero}
 use native.Mathlib.Numerals.{add-one}
-use Rattle.octets.specs.Search.{every, some, first}
+use Rattle.octets.specs.Search.{every, some}
 use Rattle.octets.proofs.Tests.{both-ways, and-left, and-right, and-both}
 
 pub every-true : (p : ℕ → Bool) (n : ℕ) → ((i : ℕ) → i < n → p i ≡ true) → every p n ≡ true
@@ -74,13 +74,17 @@ some-true p zero i l e = absurd (not-suc-le-zero l)
 some-true p (suc n) zero l e = rw e
 some-true p (suc n) (suc i) l e = rw (some-true (λ j. p (suc j)) n i (le-of-suc-le-suc l) e) (or-true (p zero))
 
-pub first-at : (p : ℕ → Bool) (n i : ℕ) → i < n → ((j : ℕ) → j < i → p j ≡ false) → p i ≡ true → first p n ≡ i
-unfolding first
-first-at p zero i l h e = absurd (not-suc-le-zero l)
-first-at p (suc n) zero l h e = rw (e, first)
-first-at p (suc n) (suc i) l h e = rw (h zero (suc-le-suc zero-le), first) (ap suc (first-at (λ j. p (suc j)) n i (le-of-suc-le-suc l) (λ j k. h (suc j) (suc-le-suc k)) e))
+-- a number below n of which a test holds
+pub record Hit (p : ℕ → Bool) (n : ℕ) : Type 0 where
+  pub at : ℕ
+  pub below : at < n
+  pub holds : p at ≡ true
 
-pub first-none : (p : ℕ → Bool) (n : ℕ) → ((j : ℕ) → j < n → p j ≡ false) → first p n ≡ n
-unfolding first
-first-none p zero h = refl
-first-none p (suc n) h = rw (h zero (suc-le-suc zero-le), first) (ap suc (first-none (λ j. p (suc j)) n (λ j k. h (suc j) (suc-le-suc k))))
+pub some-hit : (p : ℕ → Bool) (n : ℕ) → some p n ≡ true → Hit p n
+unfolding some
+some-hit p zero e = absurd (false≢true e)
+some-hit p (suc n) e = go (p zero) refl e (some-hit (λ i. p (suc i)) n)
+  where
+    go : (b : Bool) → p zero ≡ b → (b || some (λ i. p (suc i)) n) ≡ true → (some (λ i. p (suc i)) n ≡ true → Hit (λ i. p (suc i)) n) → Hit p (suc n)
+    go true d e ih = record { at = zero; below = suc-le-suc zero-le; holds = d }
+    go false d e ih = let h : Hit (λ i. p (suc i)) n = ih e in record { at = suc (h .at); below = suc-le-suc (h .below); holds = h .holds }

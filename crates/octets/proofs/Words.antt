@@ -1,4 +1,4 @@
--- Words: read byte by byte, and what a comparison of two says of a part of s against p. Assumes nothing.
+-- Words: read byte by byte, and what a comparison of two says of a part of s against p.
 use mathlib.Core.Path.{_≡_, refl, sym, ap, ap₂, subst, _∙_}
 use mathlib.Core.List.{List, [], _∷_}
 use mathlib.Core.Bool.{true, false}

@@ -1,4 +1,4 @@
--- Lists of bytes: their parts, what is put into them, numbers in big-endian order, tests. Assumes nothing.
+-- Lists of bytes: their parts, what is put into them, numbers in big-endian order, tests.
 use Prim.Native.Nat.{ℕ, zero, suc, _+_, _*_, _/_, _%_}
 use mathlib.Core.Bool.{Bool, true, false, _&&_, _||_}
 use mathlib.Core.List.{List, [], _∷_, _++_}

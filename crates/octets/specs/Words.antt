@@ -1,4 +1,4 @@
--- Words: bytes as one number, the lowest byte first. Assumes nothing.
+-- Words: bytes as one number, the lowest byte first.
 -- Only functions between the open ones and the bytes cite it: a reader of the open contracts can skip it.
 use Prim.Native.Nat.{ℕ, _+_, _*_}
 use mathlib.Core.List.{List, [], _∷_}

@@ -1,4 +1,4 @@
--- A name of n bytes padded with zeros: what `short_formed` tests says just that. Assumes nothing.
+-- A name of n bytes padded with zeros: what `short_formed` tests says just that.
 use mathlib.Core.Path.{_≡_, refl, sym, ap, ap₂, _∙_}
 use mathlib.Core.Bool.{Bool, true, false, not, _&&_, _||_, false≢true}
 use mathlib.Core.List.{List, _∷_}

@@ -1,4 +1,4 @@
--- A byte of a padded name and the next one. Assumes nothing.
+-- A byte of a padded name and the next one.
 -- Only private functions cite it: a reader of the open contract can skip it.
 use Prim.Native.Nat.{ℕ, _≤_, _<_, max}
 use mathlib.Core.Path.{_≡_}

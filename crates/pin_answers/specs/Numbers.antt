@@ -1,10 +1,9 @@
 -- The papers' number and the values for every case of an answer: document 01, 'What each number says', and document 02, Q-3.
--- Assumes nothing.
-use mathlib.Core.Bool.{false}
+use mathlib.Core.Bool.{Bool, true, false}
 use mathlib.Core.Option.{Option, none, some}
 use Prim.Native.Nat.{ℕ}
 use lib.IntN.{pos}
-use Rattle.pin_model.specs.Calls.{Answer, plain}
+use Rattle.pin_model.specs.Calls.{Answer, answerOf, plain}
 use Rattle.pin_model.specs.Calls as calls
 use Rattle.pin_answers.specs.declared.Refusal.{Refusal}
 use Rattle.pin_answers.specs.declared.Refusal.the-variants.{AreaLength, Damaged, NameMalformed, ClockAboveLimit, ClockBeforeLatest, HandshakeUnfinished, ExtensionMalformed, BreakIncorrect, KeyNoPoint, GenerationBelowOwn, TargetUnequal, SignatureIncorrect, Revoked, Expired, OneKeyTwice, OtherEdition}
@@ -49,9 +48,16 @@ verdictNumber Unpinned = 0
 verdictNumber Confirmed = 1
 verdictNumber Contradicted = 2
 
+-- a judgement in either edition: `two` is the yes for edition two
+abbrev pub judgementIn : Bool → Judgement → Answer
+judgementIn two (judgement.Judged v full) = calls.judgement two (verdictNumber v) full
+judgementIn two (judgement.Refused r) = calls.judgement two (refusalNumber r) false
+
 abbrev pub judgementAnswer : Judgement → Answer
-judgementAnswer (judgement.Judged v full) = calls.judgement (verdictNumber v) full
-judgementAnswer (judgement.Refused r) = plain (refusalNumber r)
+judgementAnswer j = judgementIn false j
+
+abbrev pub judgementTwoAnswer : Judgement → Answer
+judgementTwoAnswer j = judgementIn true j
 
 abbrev pub deletionAnswer : Deletion → Answer
 deletionAnswer deletion.Deleted = plain 3
@@ -59,10 +65,8 @@ deletionAnswer deletion.NotRecorded = plain 4
 deletionAnswer (deletion.Refused r) = plain (refusalNumber r)
 
 abbrev pub inspectionAnswer : Inspection → Answer
-inspectionAnswer (inspection.WithoutEnd floor initial) =
-    record { number = 5; noRoom = false; floor = floor; initial = initial; end = 0; minutesLeft = pos 0 }
-inspectionAnswer (inspection.WithEnd floor initial end left) =
-    record { number = 6; noRoom = false; floor = floor; initial = initial; end = end; minutesLeft = left }
+inspectionAnswer (inspection.WithoutEnd floor initial) = answerOf false 5 false floor initial 0 (pos 0)
+inspectionAnswer (inspection.WithEnd floor initial end left) = answerOf false 6 false floor initial end left
 inspectionAnswer inspection.NotRecorded = plain 4
 inspectionAnswer (inspection.Refused r) = plain (refusalNumber r)
 
@@ -76,9 +80,6 @@ judgementNumber j = judgementAnswer j .number
 
 abbrev pub deletionNumber : Deletion → ℕ
 deletionNumber d = deletionAnswer d .number
-
-abbrev pub inspectionNumber : Inspection → ℕ
-inspectionNumber i = inspectionAnswer i .number
 
 abbrev pub startingNumber : Starting → ℕ
 startingNumber s = startingAnswer s .number

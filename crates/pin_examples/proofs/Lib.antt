@@ -1,3 +1,4 @@
 pub mod Model
 pub mod Main
 pub mod Two
+pub mod Report

@@ -1,10 +1,10 @@
--- E1 to E12 and the spellings of Q-2 hold: computed on the model's tables, and carried over to bytes by the run. Assumes nothing.
+-- E1 to E12 and the spellings of Q-2 hold: computed on the model's tables, and carried over to bytes by the run.
 use mathlib.Core.Path.{_≡_, refl, _∙_}
 use mathlib.Core.Bool.{false}
 use Rattle.octets.specs.Octets.{number, numberAfter}
 use Rattle.tack_extension.specs.Extension.{tackStep, breaksStep, activationStep, parse}
 use Rattle.pin_model.specs.Layout.{joined, encodeKey, encodeName, encode}
-use Rattle.pin_journal.specs.Demand3.{areaOf}
+use Rattle.pin_model.specs.Run.{areaOf}
 use Rattle.pin_journal.proofs.Main.{area-run, answer-run}
 use Rattle.pin_examples.specs.Examples.{ReadingRight, Row, Right, after, Every, nothing, _also_, e4, e4Area, e5, e5Inspected, e6, e7, e8, e8Inspected, e9, e10, e11, e12At1000, e12At1001, spelledMade, spelledConfirmed, spelledContradicted, spelledInspected, spelledAZ, spelledBeforeA, spelledBehindZ, readingExamples, spelledExamples, Examples}
 use Rattle.pin_examples.proofs.Model.{modelAnswer}

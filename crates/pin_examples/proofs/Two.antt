@@ -1,10 +1,10 @@
--- The examples of edition two hold: computed on the model's tables, and carried over to bytes by the run. Assumes nothing.
+-- The examples of edition two hold: computed on the model's tables, and carried over to bytes by the run.
 use mathlib.Core.Path.{_≡_, refl, _∙_, ap}
 use mathlib.Core.Bool.{true}
-use Rattle.pin_model.specs.Layout.{joined, encodeKey, encodeName, encode}
 use Rattle.pin_model.specs.Table.{Table}
+use Rattle.pin_model.specs.Layout.{joined, encodeKey, encodeName, encode}
 use Rattle.pin_model.specs.Calls.{folded}
-use Rattle.pin_journal.specs.Demand3.{areaOf}
+use Rattle.pin_model.specs.Run.{areaOf}
 use Rattle.pin_journal.proofs.TableRun.{tableAnswer, tableNext}
 use Rattle.pin_journal.proofs.Main.{area-run, answer-run}
 use Rattle.pin_examples.specs.Examples.{Every, nothing, _also_}

@@ -1,5 +1,5 @@
 -- E1 to E12 of document 01, 'Examples on both sides', and spellings of a name for document 02, Q-2: one table under one
--- statement, `Examples`. Assumes nothing.
+-- statement, `Examples`.
 use mathlib.Core.Path.{_≡_}
 use mathlib.Core.Bool.{true, false}
 use mathlib.Core.List.{List, [], _∷_, _++_}
@@ -9,9 +9,10 @@ use lib.ListN.{replicate}
 use Rattle.octets.specs.Octets.{bigEndian}
 use Rattle.tack_extension.specs.Extension.{parts, bytesOf, parse}
 use Rattle.tack_extension.specs.Answers.{readingOf, readingNumber}
-use Rattle.pin_model.specs.Judge.{connection}
-use Rattle.pin_model.specs.Calls.{Call, judge, inspect, Answer, plain, answered}
-use Rattle.pin_journal.specs.Demand3.{areaOf}
+use Rattle.pin_model.specs.declared.Checks.{Checks}
+use Rattle.pin_model.specs.Connection.{Connection, connection, checksBy}
+use Rattle.pin_model.specs.Calls.{Call, judge, inspect, Answer, answerOf, plain, answered}
+use Rattle.pin_model.specs.Run.{areaOf}
 
 -- bytes, and the number that the reader answers with
 pub record ReadingRow : Type 0 where
@@ -60,13 +61,19 @@ tack minGeneration generation expiration =
 abbrev pub later : ℕ
 later = 4294967295
 
--- a connection by its name and clock, with a tack and activation 1, or with 'no extension'; 'break signatures are absent, other
--- checks pass'
+-- 'break signatures are absent, other checks pass'
+abbrev pub pass : Checks
+pass = checksBy true true true 0
+
+-- a connection by its name and clock, with a tack and activation 1, or with 'no extension'
+abbrev pub showing : List ℕ → ℕ → List ℕ → Connection
+showing name clock t = connection clock name true (bytesOf (parts t [] 1)) hash pass
+
 abbrev pub tackAs : List ℕ → ℕ → List ℕ → Call
-tackAs name clock t = judge (connection clock name true (bytesOf (parts t [] 1)) hash true true true 0)
+tackAs name clock t = judge (showing name clock t)
 
 abbrev pub noExtensionAs : List ℕ → ℕ → Call
-noExtensionAs name clock = judge (connection clock name false [] hash true true true 0)
+noExtensionAs name clock = judge (connection clock name false [] hash pass)
 
 -- the same for `a.b`
 abbrev pub withTack : ℕ → List ℕ → Call
@@ -74,6 +81,10 @@ withTack clock t = tackAs host clock t
 
 abbrev pub withoutExtension : ℕ → Call
 withoutExtension clock = noExtensionAs host clock
+
+-- a number with the alert that the paper gives it
+abbrev pub alerted : ℕ → ℕ → Answer
+alerted n alert = record { number = n; alert = alert; noRoom = false; floor = 0; initial = 0; end = 0; minutesLeft = pos 0 }
 
 -- E1: 'bytes 00 00 00 00 are well-formed'
 abbrev pub e1 : ReadingRow
@@ -109,11 +120,11 @@ e5 = row (after e4) (withTack 1600 (tack 3 3 later)) (plain 1)
 abbrev pub e5Inspected : Row
 e5Inspected =
     row (after e5) (inspect false host 1600)
-    (record { number = 6; noRoom = false; floor = 3; initial = 1000; end = 2200; minutesLeft = pos 600 })
+    (answerOf false 6 false 3 1000 2200 (pos 600))
 
 -- E6: 'then no extension at 2199: contradicted'
 abbrev pub e6 : Row
-e6 = row (after e5) (withoutExtension 2199) (plain 2)
+e6 = row (after e5) (withoutExtension 2199) (alerted 2 49)
 
 -- E7: 'instead at 2200: unpinned'
 abbrev pub e7 : Row
@@ -127,15 +138,15 @@ e8 = row (after e4) (withTack 100000 (tack 3 3 later)) (plain 1)
 abbrev pub e8Inspected : Row
 e8Inspected =
     row (after e8) (inspect false host 100000)
-    (record { number = 6; noRoom = false; floor = 3; initial = 1000; end = 143200; minutesLeft = pos 43200 })
+    (answerOf false 6 false 3 1000 143200 (pos 43200))
 
 -- E9: 'from E4, K with generation 2 and min_generation 2: 22'
 abbrev pub e9 : Row
-e9 = row (after e4) (withTack 1000 (tack 2 2 later)) (plain 22)
+e9 = row (after e4) (withTack 1000 (tack 2 2 later)) (alerted 22 44)
 
 -- E10: 'generation 2, min_generation 3: 19, because 19 comes first'
 abbrev pub e10 : Row
-e10 = row (after e4) (withTack 1000 (tack 3 2 later)) (plain 19)
+e10 = row (after e4) (withTack 1000 (tack 3 2 later)) (alerted 19 50)
 
 -- E11: 'from E5, clock 1599: 14'
 abbrev pub e11 : Row
@@ -146,7 +157,7 @@ abbrev pub e12At1000 : Row
 e12At1000 = row [] (withTack 1000 (tack 3 3 1000)) (plain 0)
 
 abbrev pub e12At1001 : Row
-e12At1001 = row [] (withTack 1001 (tack 3 3 1000)) (plain 23)
+e12At1001 = row [] (withTack 1001 (tack 3 3 1000)) (alerted 23 45)
 
 -- 'Browsers hand us `Desk.Example`. Accept A-Z and treat it as a-z everywhere' (document 02, Q-2)
 abbrev pub typed : List ℕ
@@ -170,13 +181,13 @@ abbrev pub spelledConfirmed : Row
 spelledConfirmed = row (after spelledMade) (tackAs small 1600 (tack 3 3 later)) (plain 1)
 
 abbrev pub spelledContradicted : Row
-spelledContradicted = row (after spelledConfirmed) (noExtensionAs capitals 2199) (plain 2)
+spelledContradicted = row (after spelledConfirmed) (noExtensionAs capitals 2199) (alerted 2 49)
 
 -- the end of that pin, a minute before it
 abbrev pub spelledInspected : Row
 spelledInspected =
     row (after spelledConfirmed) (inspect false mixed 2199)
-    (record { number = 6; noRoom = false; floor = 3; initial = 1000; end = 2200; minutesLeft = pos 1 })
+    (answerOf false 6 false 3 1000 2200 (pos 1))
 
 -- 'A-Z' and no byte beside them, 'Refusal 12 narrows': `A.Z` passes, `@.Z` and `A.[` give 12
 abbrev pub spelledAZ : Row

@@ -1,4 +1,4 @@
--- The invariant of a run, and what keeps it: nothing done, a judgement with a verdict, a deletion, a start. Assumes nothing.
+-- The invariant of a run, and what keeps it: nothing done, a judgement with a verdict, a deletion, a start.
 use mathlib.Core.Path.{_≡_, refl, sym, _∙_, ap, subst}
 use mathlib.Core.Bool.{Bool, true, false, cond, false≢true}
 use mathlib.Core.List.{List, [], _∷_}
@@ -6,13 +6,14 @@ use Prim.Native.Nat.{ℕ, _≤_, max}
 use native.Mathlib.Omega.{arith}
 use lib.Dec.{eqb}
 use Rattle.pin_model.specs.Table.{clockLimit, Table, empty, without}
-use Rattle.pin_model.specs.Judge.{Connection, tackShown, judged}
-use Rattle.pin_model.specs.JudgeTwo.{ConnectionTwo, tacksShown, raisedTwo, contradicted, judgedTwo}
-use Rattle.pin_model.specs.Calls.{Call, judge, judgeTwo, delete, start}
+use Rattle.pin_model.specs.Connection.{Connection, tackShown, enabled, brokenKeys, ConnectionTwo, tacksShown}
+use Rattle.pin_model.specs.Judge.{judged}
+use Rattle.pin_model.specs.JudgeTwo.{raisedTwo, contradicted, judgedTwo}
+use Rattle.pin_model.specs.Calls.{Call, judge, judgeTwo, delete, start, isVerdict, tacksOfCall}
 use Rattle.pin_model.proofs.Lists.{struck-any}
 use Rattle.pin_model.proofs.SoundFacts.{SoundFacts}
 use Rattle.pin_model.proofs.TwoFacts.{ConnectionTwoFacts}
-use Rattle.pin_journal.specs.Journal.{Row, Entry, rowOf, rowKey, entered, unbroken, journal, stands, since, highest, enteredTwo, isVerdict, tacksOfCall, shownUnder}
+use Rattle.pin_journal.specs.Journal.{Row, Entry, rowOf, rowKey, entered, unbroken, journal, stands, since, highest, enteredTwo, shownUnder}
 use Rattle.pin_journal.proofs.Agreement.{Agrees, refloored}
 use Rattle.pin_journal.proofs.Steps.{without-agrees}
 use Rattle.pin_journal.proofs.Judging.{Learned, judged-learned}
@@ -92,12 +93,14 @@ pub judge-invariant : (c : Connection) (t : Table) (es : List Entry) (n : ℕ) �
     → t .two ≡ false → t .latest ≤ c .clock → c .clock ≤ clockLimit → Invariant (judged c t) (entry (judge c) n ∷ es)
 unfolding journal
 judge-invariant c t es n verdict invariant facts one inOrder inLimit =
-    learned-invariant (judge c) t (judged c t) es n verdict (unbroken c (entered c (tackShown c) (journal es))) refl
+    learned-invariant (judge c) t (judged c t) es n verdict
+    (unbroken (brokenKeys c) (entered (enabled c) (c .name) (c .clock) (tackShown c) (journal es))) refl
     (judged-learned c t (journal es) (λ k. highest k (since k es)) invariant facts one inOrder inLimit)
 
 pub judge-two-invariant : (c : ConnectionTwo) (t : Table) (es : List Entry) (n : ℕ) → isVerdict n ≡ true → contradicted (c .name) (c .clock) (tacksShown c) (raisedTwo c t) ≡ eqb n 2
     → Invariant t es → SoundFacts t → ConnectionTwoFacts c t → Invariant (judgedTwo c t) (entry (judgeTwo c) n ∷ es)
 unfolding journal
 judge-two-invariant c t es n verdict its invariant facts passed =
-    learned-invariant (judgeTwo c) t (judgedTwo c t) es n verdict (enteredTwo c n (journal es)) refl
+    learned-invariant (judgeTwo c) t (judgedTwo c t) es n verdict
+    (enteredTwo (c .name) (c .clock) (tacksShown c) n (journal es)) refl
     (judged-two-learned c t (journal es) (λ k. highest k (since k es)) invariant facts passed n its)

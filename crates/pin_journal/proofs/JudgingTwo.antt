@@ -1,4 +1,4 @@
--- A judgement of edition two keeps the agreement, and raises floors as the journal counts them. Assumes nothing.
+-- A judgement of edition two keeps the agreement, and raises floors as the journal counts them.
 use mathlib.Core.Path.{_≡_, refl, sym, _∙_, ap, subst, fun-ext}
 use mathlib.Core.Bool.{Bool, true, false, cond, not, _&&_, _||_, true≢false, false≢true, and-comm, and-false, or-true}
 use mathlib.Core.List.{List, [], _∷_, map}
@@ -11,20 +11,21 @@ use Rattle.octets.proofs.Tests.{byTest, is-false, and-left, and-right}
 use Rattle.octets.proofs.Equal.{same-true, same-refl}
 use Rattle.host_name.specs.Name.{wellFormed}
 use Rattle.tack_extension.specs.Tack.{publicKey, minGeneration}
-use Rattle.pin_model.specs.Slots.{count, used, hasFree, placed, apart, struck, rewritten}
+use Rattle.pin_model.specs.Slots.{count, used, hasFree, placed, apart, struck}
 use Rattle.pin_model.specs.Table.{clockLimit, NameRecord, Table, holding, nameIs, pinIs, active, keyRecorded, withoutAll}
-use Rattle.pin_model.specs.Judge.{raise, madeFor, keyedFor, activeOf}
-use Rattle.pin_model.specs.JudgeTwo.{ConnectionTwo, Shown, tacksShown, keyShown, keyEnabled, raiseEach, raisedAt, raisedTwo, contradicted, isRemoved, hasOwn, roomOf, extendOwn, makeOwn, learnOwn, learnEach, learnedIn, judgedTwo}
+use Rattle.pin_model.specs.Connection.{ConnectionTwo, Shown, tacksShown, keyShown, keyEnabled}
+use Rattle.pin_model.specs.Judge.{raise, extend, newName, keyedFor, activeOf}
+use Rattle.pin_model.specs.JudgeTwo.{raiseEach, raisedAt, raisedTwo, contradicted, isRemoved, hasOwn, roomOf, makeOwn, learnOwn, learnEach, learnTwo, judgedTwo}
 use Rattle.pin_model.proofs.Lists.{bit, any-ext, any-struck}
 use Rattle.pin_model.proofs.Slots.{alike-placed}
 use Rattle.pin_model.proofs.SoundFacts.{SoundFacts}
 use Rattle.pin_model.proofs.TwoFacts.{ConnectionTwoFacts}
 use Rattle.pin_model.proofs.SoundTwo.{Stage, own-stage, removed-stage, raised-stage}
-use Rattle.pin_journal.specs.Journal.{Row, rowOf, rowKey, live, seenAt, isFull, rowFor, rowRemoved, ownRow, writeOwn, enteredOwn, enteredEach, enteredTwo, stands, shownUnder}
+use Rattle.pin_journal.specs.Journal.{Row, rowOf, rowKey, live, ownRow, seenRows, isFull, newRow, rowRemoved, writeOwn, enteredOwn, enteredEach, enteredTwo, stands, shownUnder}
 use Rattle.pin_journal.specs.Demand3.{contradictsTwo}
-use Rattle.pin_journal.proofs.Sealed.{sealed, live-sealed}
+use Rattle.pin_journal.proofs.RowRecord.{recordOf, live-active}
 use Rattle.pin_journal.proofs.Agreement.{Agrees, any-row, settled, refloored}
-use Rattle.pin_journal.proofs.Steps.{raise-agrees, seen-by-stands, extended-agrees, removed-agrees}
+use Rattle.pin_journal.proofs.Steps.{raise-agrees, seen-stands, extend-agrees, removed-agrees}
 use Rattle.pin_journal.proofs.AddedRow.{newFloor, rows-room, added-agrees}
 use Rattle.pin_journal.proofs.Judging.{Learned}
 
@@ -58,20 +59,20 @@ module _ (name : List ℕ) (clock : ℕ) (s : Shown) {t : Table} {rows : List Ro
   as-many-rows : count (nameIs name) (used (t .names)) ≡ count (rowOf name) rows
   as-many-rows = agrees .sameNames (nameIs name) ∙ go rows
     where
-      go : (l : List Row) → count (nameIs name) (map sealed l) ≡ count (rowOf name) l
+      go : (l : List Row) → count (nameIs name) (map recordOf l) ≡ count (rowOf name) l
       go [] = refl
       go (r ∷ rs) = ap (λ (n : ℕ). bit (rowOf name r) + n) (go rs)
 
-  own-rows : hasOwn name (s .tack) t ≡ any (ownRow name (s .tack)) rows
+  own-rows : hasOwn name (s .tack) t ≡ any (ownRow name key) rows
   own-rows = any-row agrees (pinIs name key)
 
   made-agrees : hasOwn name (s .tack) t ≡ false → (stands key rows ≡ false → floor key ≡ minGeneration (s .tack))
-      → Agrees (makeOwn name clock (s .tack) t) (writeOwn name clock (s .tack) rows) floor
+      → Agrees (makeOwn name clock (s .tack) t) (writeOwn name clock key rows) floor
   made-agrees none new =
       go (ltb (count (nameIs name) (used (t .names))) 2) (ltb (count (rowOf name) rows) 2) (ap (λ (n : ℕ). ltb n 2) as-many-rows)
       (roomOf (s .tack) t) refl (isFull key rows) (rows-room (s .tack) agrees facts) (hasOwn name (s .tack) t) none
     where
-      same-floor : (k : List ℕ) → stands k (rowFor name clock key ∷ rows) ≡ true → newFloor (s .tack) rows floor k ≡ floor k
+      same-floor : (k : List ℕ) → stands k (newRow name clock key ∷ rows) ≡ true → newFloor (s .tack) rows floor k ≡ floor k
       same-floor k e = byTest (stands key rows) (λ d. rw d) (λ d. rw d (at d (same key k) refl))
         where
           at : stands key rows ≡ false → (b : Bool) → same key k ≡ b → cond b (minGeneration (s .tack)) (floor k) ≡ floor k
@@ -79,18 +80,18 @@ module _ (name : List ℕ) (clock : ℕ) (s : Shown) {t : Table} {rows : List Ro
           at d false f = refl
 
       added : roomOf (s .tack) t ≡ true
-          → Agrees (holding t (keyedFor (s .tack) (t .keys)) (placed (madeFor name clock (s .tack)) (t .names))) (rowFor name clock key ∷ rows) floor
+          → Agrees (holding t (keyedFor (s .tack) (t .keys)) (placed (newName name clock (s .tack)) (t .names))) (newRow name clock key ∷ rows) floor
       added room =
           refloored
           (added-agrees (s .tack) agrees facts (and-right (hasFree (t .names)) (keyRecorded key t || hasFree (t .keys)) room) name clock
-          (placed (madeFor name clock (s .tack)) (t .names))
-          (alike-placed (madeFor name clock (s .tack)) (t .names) (and-left (hasFree (t .names)) (keyRecorded key t || hasFree (t .keys)) room)))
+          (placed (newName name clock (s .tack)) (t .names))
+          (alike-placed (newName name clock (s .tack)) (t .names) (and-left (hasFree (t .names)) (keyRecorded key t || hasFree (t .keys)) room)))
           floor same-floor
 
       go : (few fewRows : Bool) → few ≡ fewRows → (room : Bool) → roomOf (s .tack) t ≡ room → (full : Bool) → room ≡ not full
           → (own : Bool) → own ≡ false
-          → Agrees (cond ((not own && few) && room) (holding t (keyedFor (s .tack) (t .keys)) (placed (madeFor name clock (s .tack)) (t .names))) t)
-          (cond (fewRows && not full) (rowFor name clock key ∷ rows) rows) floor
+          → Agrees (cond ((not own && few) && room) (holding t (keyedFor (s .tack) (t .keys)) (placed (newName name clock (s .tack)) (t .names))) t)
+          (cond (fewRows && not full) (newRow name clock key ∷ rows) rows) floor
       go few fewRows e room r full f true o = absurd (true≢false o)
       go true true e true r false f false o = added r
       go true true e true r true f false o = absurd (true≢false f)
@@ -102,25 +103,25 @@ module _ (name : List ℕ) (clock : ℕ) (s : Shown) {t : Table} {rows : List Ro
 
   own-agrees : (s .enabled ≡ true → stands key rows ≡ false → floor key ≡ minGeneration (s .tack))
       → Agrees (learnOwn name clock s t) (enteredOwn name clock s rows) floor
-  own-agrees new = go (s .enabled) refl (hasOwn name (s .tack) t) refl (any (ownRow name (s .tack)) rows) own-rows
+  own-agrees new = go (s .enabled) refl (hasOwn name (s .tack) t) refl (any (ownRow name key) rows) own-rows
     where
       go : (enabled : Bool) → s .enabled ≡ enabled → (own : Bool) → hasOwn name (s .tack) t ≡ own → (ownRows : Bool) → own ≡ ownRows
-          → Agrees (cond enabled (cond own (extendOwn name clock (s .tack) t) (makeOwn name clock (s .tack) t)) t)
-          (cond enabled (cond ownRows (rewritten (ownRow name (s .tack)) (seenAt clock) rows) (writeOwn name clock (s .tack) rows)) rows) floor
+          → Agrees (cond enabled (cond own (extend true name clock (s .tack) t) (makeOwn name clock (s .tack) t)) t)
+          (cond enabled (cond ownRows (seenRows true name clock key rows) (writeOwn name clock key rows)) rows) floor
       go false e own o ownRows p = agrees
-      go true e true o true p = extended-agrees clock (pinIs name key) agrees
+      go true e true o true p = extend-agrees true name clock (s .tack) agrees
       go true e true o false p = absurd (true≢false p)
       go true e false o true p = absurd (false≢true p)
       go true e false o false p = made-agrees o (new e)
 
   -- no key goes
   own-stands : (k : List ℕ) → stands k rows ≡ true → stands k (enteredOwn name clock s rows) ≡ true
-  own-stands k e = go (s .enabled) (any (ownRow name (s .tack)) rows) (ltb (count (rowOf name) rows) 2 && not (isFull key rows))
+  own-stands k e = go (s .enabled) (any (ownRow name key) rows) (ltb (count (rowOf name) rows) 2 && not (isFull key rows))
     where
       go : (enabled own write : Bool)
-          → stands k (cond enabled (cond own (rewritten (ownRow name (s .tack)) (seenAt clock) rows) (cond write (rowFor name clock key ∷ rows) rows)) rows) ≡ true
+          → stands k (cond enabled (cond own (seenRows true name clock key rows) (cond write (newRow name clock key ∷ rows) rows)) rows) ≡ true
       go false own write = e
-      go true true write = seen-by-stands clock (pinIs name key) k rows ∙ e
+      go true true write = seen-stands true name clock (s .tack) k rows ∙ e
       go true false true = ap (λ (b : Bool). same key k || b) e ∙ or-true (same key k)
       go true false false = e
 
@@ -210,8 +211,8 @@ module _ (name : List ℕ) (clock : ℕ) (tacks : List Shown) (t : Table) (rows 
   raised-now : Agrees raised rows floorNow
   raised-now = refloored (settled (raised-agrees tacks agrees) clock) floorNow (λ k e. rw e)
 
-  removed-same : (r : Row) → goes (sealed r) ≡ goesRow r
-  removed-same r = ap (λ (b : Bool). rowOf name r && (not b && not (keyEnabled tacks (r .key)))) (sym (live-sealed clock r))
+  removed-same : (r : Row) → goes (recordOf r) ≡ goesRow r
+  removed-same r = ap (λ (b : Bool). rowOf name r && (not b && not (keyEnabled tacks (r .key)))) (sym (live-active clock r))
 
   removed : Agrees (withoutAll goes raised) (struck goesRow rows) floorNow
   removed =
@@ -238,8 +239,8 @@ module _ (name : List ℕ) (clock : ℕ) (tacks : List Shown) (t : Table) (rows 
       (foretold-shown tacks tacks rows (struck goesRow rows) floor (λ k e. refl) distinct (λ k e d. sym (kept-key k e) ∙ d))
 
   -- `isContradicted` is what the call's number says
-  pub learned-two : (isContradicted : Bool) → contradicted name clock tacks raised ≡ isContradicted
-      → Learned (tacksOf tacks) rows floor (learnedIn name clock tacks raised)
+  learned-two : (isContradicted : Bool) → contradicted name clock tacks raised ≡ isContradicted
+      → Learned (tacksOf tacks) rows floor (learnTwo name clock tacks raised)
       (cond isContradicted rows (enteredEach name clock tacks (struck goesRow rows)))
   learned-two isContradicted e =
       record { floorAfter = floorNow; agrees = go (contradicted name clock tacks raised) isContradicted e; highest = λ k d. refl }
@@ -255,7 +256,7 @@ module _ (name : List ℕ) (clock : ℕ) (tacks : List Shown) (t : Table) (rows 
 -- `n` is the call's number
 pub judged-two-learned : (c : ConnectionTwo) (t : Table) (rows : List Row) (floor : List ℕ → ℕ) → Agrees t rows floor → SoundFacts t
     → ConnectionTwoFacts c t → (n : ℕ) → contradicted (c .name) (c .clock) (tacksShown c) (raisedTwo c t) ≡ eqb n 2
-    → Learned (tacksOf (tacksShown c)) rows floor (judgedTwo c t) (enteredTwo c n rows)
+    → Learned (tacksOf (tacksShown c)) rows floor (judgedTwo c t) (enteredTwo (c .name) (c .clock) (tacksShown c) n rows)
 unfolding judgedTwo
 judged-two-learned c t rows floor agrees facts passed n e =
     learned-two (c .name) (c .clock) (tacksShown c) t rows floor agrees facts (passed .ofEditionTwo) (passed .clockInOrder) (passed .clockInLimit)
@@ -266,8 +267,8 @@ pub contradicted-two-rows : (c : ConnectionTwo) (t : Table) (rows : List Row) (f
     → contradicted (c .name) (c .clock) (tacksShown c) (raisedTwo c t) ≡ any (contradictsTwo c) rows
 contradicted-two-rows c t rows floor agrees =
     any-row (raised-agrees (tacksShown c) agrees) (λ r. activeOf (c .name) (c .clock) r && not (keyShown (tacksShown c) (r .key)))
-    ∙ any-ext (λ r. (rowOf (c .name) r && active (c .clock) (sealed r)) && not (keyShown (tacksShown c) (r .key))) (contradictsTwo c)
-    (λ r. ap (λ (b : Bool). (rowOf (c .name) r && b) && not (keyShown (tacksShown c) (r .key))) (sym (live-sealed (c .clock) r))
+    ∙ any-ext (λ r. (rowOf (c .name) r && active (c .clock) (recordOf r)) && not (keyShown (tacksShown c) (r .key))) (contradictsTwo c)
+    (λ r. ap (λ (b : Bool). (rowOf (c .name) r && b) && not (keyShown (tacksShown c) (r .key))) (sym (live-active (c .clock) r))
     ∙ turn (rowOf (c .name) r) (live (c .clock) r) (not (keyShown (tacksShown c) (r .key)))) rows
   where
     turn : (x y z : Bool) → ((x && y) && z) ≡ (x && (z && y))

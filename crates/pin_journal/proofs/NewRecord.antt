@@ -1,62 +1,63 @@
--- Step 2 (ii): the journal wants a record, has room for it and writes it as the table does. Assumes nothing.
+-- Step 2 (ii): the journal wants a record, has room for it and writes it as the table does.
 use mathlib.Core.Path.{_≡_, sym, _∙_, ap, ap₂}
 use mathlib.Core.Bool.{Bool, true, false, not, _&&_, _||_, or-comm}
 use mathlib.Core.List.{List, _∷_}
 use Prim.Native.Nat.{ℕ}
-use Rattle.octets.specs.Octets.{any}
 use Rattle.tack_extension.specs.Tack.{publicKey}
 use Rattle.pin_model.specs.Slots.{hasFree}
-use Rattle.pin_model.specs.Table.{Table, holding, nameIs, pinnedTo, active, nameRecorded, without}
-use Rattle.pin_model.specs.Judge.{Connection, wantsRecord, roomFor, keysWith, namesWith}
+use Rattle.pin_model.specs.Table.{Table, nameIs, pinnedTo, active, nameRecorded, without}
+use Rattle.pin_model.specs.Judge.{wantsRecord, roomFor, namesWith, withRecord}
 use Rattle.pin_model.proofs.Lists.{any-ext}
 use Rattle.pin_model.proofs.Slots.{hasFree-freed}
 use Rattle.pin_model.proofs.SoundFacts.{SoundFacts}
 use Rattle.pin_model.proofs.SoundRemoval.{without-keeps}
 use Rattle.pin_model.proofs.SoundCreation.{wanted-key, names-alike, name-room, key-room}
-use Rattle.pin_journal.specs.Journal.{Row, rowOf, rowKey, live, keepsRow, isFull, otherRows, newRow, stands}
-use Rattle.pin_journal.proofs.Sealed.{sealed, live-sealed}
+use Rattle.pin_journal.specs.Journal.{Row, rowOf, rowKey, live, wantsRow, isFull, otherRows, newRow, stands}
+use Rattle.pin_journal.proofs.RowRecord.{recordOf, live-active}
 use Rattle.pin_journal.proofs.Agreement.{Agrees, any-row, key-stands}
 use Rattle.pin_journal.proofs.Steps.{without-agrees}
 use Rattle.pin_journal.proofs.AddedRow.{newFloor, rows-room, added-agrees}
 
-module _ (c : Connection) (tack : List ℕ) {t : Table} {rows : List Row} {floor : List ℕ → ℕ} (agrees : Agrees t rows floor) (facts : SoundFacts t) where
+module _ (name : List ℕ) (clock : ℕ) (tack : List ℕ) {t : Table} {rows : List Row} {floor : List ℕ → ℕ}
+    (agrees : Agrees t rows floor) (facts : SoundFacts t) where
   abbrev left : Table
-  left = without (c .name) t
+  left = without name t
 
   abbrev others : List Row
-  others = otherRows c rows
+  others = otherRows name rows
 
   left-agrees : Agrees left others floor
-  left-agrees = without-agrees (c .name) agrees
+  left-agrees = without-agrees name agrees
 
   leftFacts : SoundFacts left
-  leftFacts = without-keeps (c .name) facts
+  leftFacts = without-keeps name facts
 
   -- 'if the name has no record, or an inactive one with another key'
-  pub wants-same : wantsRecord c tack t ≡ not (keepsRow c (publicKey tack) rows)
+  pub wants-same : wantsRecord name clock tack t ≡ wantsRow name clock (publicKey tack) rows
   wants-same =
       ap not
-      (any-row agrees (λ r. nameIs (c .name) r && (pinnedTo (publicKey tack) r || active (c .clock) r))
-      ∙ any-ext (λ r. rowOf (c .name) r && (rowKey (publicKey tack) r || active (c .clock) (sealed r)))
-      (λ r. rowOf (c .name) r && (rowKey (publicKey tack) r || live (c .clock) r))
-      (λ r. ap (λ (b : Bool). rowOf (c .name) r && (rowKey (publicKey tack) r || b)) (sym (live-sealed (c .clock) r))) rows)
+      (any-row agrees (λ r. nameIs name r && (pinnedTo (publicKey tack) r || active clock r))
+      ∙ any-ext (λ r. rowOf name r && (rowKey (publicKey tack) r || active clock (recordOf r)))
+      (λ r. rowOf name r && (rowKey (publicKey tack) r || live clock r))
+      (λ r. ap (λ (b : Bool). rowOf name r && (rowKey (publicKey tack) r || b)) (sym (live-active clock r))) rows)
 
-  module _ (wants : wantsRecord c tack t ≡ true) where
+  module _ (wants : wantsRecord name clock tack t ≡ true) where
     -- the key stands on no row of this name
     pub key-elsewhere : stands (publicKey tack) others ≡ stands (publicKey tack) rows
-    key-elsewhere = sym (key-stands left-agrees (publicKey tack)) ∙ wanted-key c tack facts wants ∙ key-stands agrees (publicKey tack)
+    key-elsewhere =
+        sym (key-stands left-agrees (publicKey tack)) ∙ wanted-key name clock tack facts wants ∙ key-stands agrees (publicKey tack)
 
     -- '128 rows, or 64 different keys and none is the tack's', 'without the old row'
-    pub room-same : roomFor c tack t ≡ not (isFull (publicKey tack) others)
+    pub room-same : roomFor name tack t ≡ not (isFull (publicKey tack) others)
     room-same =
         ap₂ (λ (a b : Bool). a && (b || hasFree (left .keys)))
-        (or-comm (nameRecorded (c .name) t) (hasFree (t .names)) ∙ sym (hasFree-freed (nameIs (c .name)) (t .names)))
-        (sym (wanted-key c tack facts wants))
+        (or-comm (nameRecorded name t) (hasFree (t .names)) ∙ sym (hasFree-freed (nameIs name) (t .names)))
+        (sym (wanted-key name clock tack facts wants))
         ∙ rows-room tack left-agrees leftFacts
 
     -- 'the old row, if any, is struck and a new one written'
-    pub create-agrees : t .two ≡ false → roomFor c tack t ≡ true
-        → Agrees (holding t (keysWith c tack t) (namesWith c tack t)) (newRow c (publicKey tack) ∷ others) (newFloor tack others floor)
+    pub create-agrees : t .two ≡ false → roomFor name tack t ≡ true
+        → Agrees (withRecord name clock tack t) (newRow name clock (publicKey tack) ∷ others) (newFloor tack others floor)
     create-agrees one room =
-        added-agrees tack left-agrees leftFacts (key-room c tack facts wants room) (c .name) (c .clock) (namesWith c tack t)
-        (names-alike c tack facts one (name-room c tack facts room))
+        added-agrees tack left-agrees leftFacts (key-room name clock tack facts wants room) name clock (namesWith name clock tack t)
+        (names-alike name clock tack facts one (name-room name clock tack facts room))

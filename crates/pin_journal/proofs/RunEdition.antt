@@ -1,15 +1,15 @@
--- 'Demand 3's list may begin with either empty table, and a start in it sets the edition' (document 02, Q-3). Assumes nothing.
+-- 'Demand 3's list may begin with either empty table, and a start in it sets the edition' (document 02, Q-3).
 use mathlib.Core.Path.{_≡_, refl, _∙_, ap}
 use mathlib.Core.Bool.{Bool}
 use mathlib.Core.List.{List, [], _∷_}
 use mathlib.Core.Option.{Option, none, some}
 use Prim.Native.Nat.{ℕ}
 use Rattle.pin_model.specs.Table.{Table}
-use Rattle.pin_model.specs.Sound.{ofTwo}
+use Rattle.pin_model.specs.Layout.{ofTwo}
 use Rattle.pin_model.specs.Calls.{Call, judge, judgeTwo, delete, inspect, start, folded, tableAfter}
+use Rattle.pin_model.specs.Run.{areaOf}
 use Rattle.pin_model.proofs.Editions.{editionAfter, after-edition}
 use Rattle.pin_model.proofs.TableCalls.{tableRefusal, tableBy, tableNext}
-use Rattle.pin_journal.specs.Demand3.{areaOf}
 use Rattle.pin_journal.proofs.TableRun.{tableRun}
 use Rattle.pin_journal.proofs.Run.{table-run}
 

@@ -1,2 +1,2 @@
-pub mod Applied
 pub mod Known
+pub mod Answered

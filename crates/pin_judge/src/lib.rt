@@ -3,35 +3,40 @@ use host_name::folding;
 use pin_answers::Checked;
 use pin_answers::Judgement;
 use pin_answers::Refusal;
+use pin_creation::create;
+use pin_model::Checks;
 use pin_records::store;
+use pin_refusals::connection;
 use pin_steps::breaks;
-use pin_steps::create;
 use pin_steps::extend;
 use pin_steps::raise;
 use pin_steps::verdict;
 use pin_table::minutes::Clock;
 use pin_table::minutes::Minutes;
 use pin_table::slots;
-use pin_tests::connection;
 use tack_extension::reader;
 use tack_extension::reader::Reading;
 ghost use mathlib.Core.Path.{_≡_};
 ghost use mathlib.Core.Bool.{true, false};
+ghost use mathlib.Core.List.{map};
 ghost use lib.ListN.{length};
 ghost use Rattle.tack_extension.specs.Extension.{parse, tackLength, tackPart, breaksLength, breaksPart};
+ghost use Rattle.tack_extension.specs.Tack.{breakKey, breakSignatures};
 ghost use Rattle.pin_model.specs.Layout.{decode, encode};
 ghost use Rattle.pin_model.specs.Sound.{sound};
-ghost use Rattle.pin_model.specs.Judge.{connection, unlessEmpty, isNone, isEnabled};
+ghost use Rattle.pin_model.specs.Connection.{connection, unlessEmpty, isEnabled};
+ghost use Rattle.pin_model.specs.Refusals.{isNone};
+ghost use Rattle.pin_model.specs.Judge.{learn, noRoomIn, steps};
 ghost use Rattle.pin_model.specs.Calls as calls;
 ghost use Rattle.pin_answers.specs.Numbers.{judgementAnswer};
 ghost use Rattle.pin_records.specs.Holds.{Holds};
 ghost use Rattle.pin_judge.specs.Known.{Admitted, InOrder};
-ghost use Rattle.pin_judge.specs.Applied.{learnBy, crowdedBy, appliedBy, appliedAnswer};
+ghost use Rattle.pin_judge.specs.Answered.{stepsAnswer};
 
 // Steps 1 and 2. The answer is 'no room'.
 fn learn(area: &mut [u8], name: &[u8], clock: Minutes, tack: &[u8], enabled: bool) -> bool
     requires { ⌜ InOrder (now area) (now name) (clock .0) × (tackLength (length (now tack)) ≡ true) ⌝ }
-    ensures { λ r. ⌜ (r ≡ crowdedBy enabled (now (name .entry)) (clock .0) (unlessEmpty (now (tack .entry))) (decode (now (area .entry)))) × Holds (now (area .exit)) (learnBy enabled (now (name .entry)) (clock .0) (unlessEmpty (now (tack .entry))) (decode (now (area .entry)))) ⌝ }
+    ensures { λ r. ⌜ (r ≡ noRoomIn enabled (now (name .entry)) (clock .0) (unlessEmpty (now (tack .entry))) (decode (now (area .entry)))) × Holds (now (area .exit)) (learn enabled (now (name .entry)) (clock .0) (unlessEmpty (now (tack .entry))) (decode (now (area .entry)))) ⌝ }
 {
     if tack.len() == 0 {
         return false;
@@ -54,7 +59,7 @@ fn apply(
     enabled: bool,
 ) -> Judgement
     requires { ⌜ InOrder (now area) (now name) (clock .0) × (tackLength (length (now tack)) ≡ true) × (breaksLength (length (now broken)) ≡ true) ⌝ }
-    ensures { λ r. ⌜ (judgementAnswer r ≡ appliedAnswer enabled (now (name .entry)) (clock .0) (now (tack .entry)) (now (broken .entry)) (decode (now (area .entry)))) × (now (area .exit) ≡ encode (appliedBy enabled (now (name .entry)) (clock .0) (now (tack .entry)) (now (broken .entry)) (decode (now (area .entry))))) ⌝ }
+    ensures { λ r. ⌜ (judgementAnswer r ≡ stepsAnswer enabled (now (name .entry)) (clock .0) (unlessEmpty (now (tack .entry))) (map breakKey (breakSignatures (now (broken .entry)))) (decode (now (area .entry)))) × (now (area .exit) ≡ encode (steps enabled (now (name .entry)) (clock .0) (unlessEmpty (now (tack .entry))) (map breakKey (breakSignatures (now (broken .entry)))) (decode (now (area .entry))))) ⌝ }
 {
     let no_room = learn(area, name, clock, tack, enabled);
     breaks::break_keys(area, broken);
@@ -68,7 +73,7 @@ fn apply(
 // The steps on the parts of an extension that is known to be well-formed: what is read anew is its activation.
 fn apply_shown(area: &mut [u8], name: &[u8], clock: Minutes, extension: &[u8]) -> Judgement
     requires { ⌜ InOrder (now area) (now name) (clock .0) × (isNone (parse (now extension)) ≡ false) ⌝ }
-    ensures { λ r. ⌜ (judgementAnswer r ≡ appliedAnswer (isEnabled (parse (now (extension .entry)))) (now (name .entry)) (clock .0) (tackPart (now (extension .entry))) (breaksPart (now (extension .entry))) (decode (now (area .entry)))) × (now (area .exit) ≡ encode (appliedBy (isEnabled (parse (now (extension .entry)))) (now (name .entry)) (clock .0) (tackPart (now (extension .entry))) (breaksPart (now (extension .entry))) (decode (now (area .entry))))) ⌝ }
+    ensures { λ r. ⌜ (judgementAnswer r ≡ stepsAnswer (isEnabled (parse (now (extension .entry)))) (now (name .entry)) (clock .0) (unlessEmpty (tackPart (now (extension .entry)))) (map breakKey (breakSignatures (breaksPart (now (extension .entry))))) (decode (now (area .entry)))) × (now (area .exit) ≡ encode (steps (isEnabled (parse (now (extension .entry)))) (now (name .entry)) (clock .0) (unlessEmpty (tackPart (now (extension .entry)))) (map breakKey (breakSignatures (breaksPart (now (extension .entry))))) (decode (now (area .entry))))) ⌝ }
 {
     let Reading::WellFormed { activation } = reader::read(extension) else {
         return Judgement::Refused(Refusal::ExtensionMalformed);
@@ -90,24 +95,18 @@ fn judge_at(
     name: &[u8],
     extension: &[u8],
     hash: &[u8],
-    handshake_finished: bool,
-    key_is_point: bool,
-    signature_correct: bool,
-    breaks_correct: u8,
+    checks: Checks,
 ) -> Judgement
     requires { ⌜ (sound (now area) ≡ true) × Admitted (now area) (now name) (clock .0) ⌝ }
-    ensures answer { λ r. ⌜ judgementAnswer r ≡ calls.answer (calls.judge (connection (clock .0) (now (name .entry)) true (now (extension .entry)) (now (hash .entry)) «handshake_finished» «key_is_point» «signature_correct» «breaks_correct»)) (now (area .entry)) ⌝ }
-    ensures area { λ _. ⌜ now (area .exit) ≡ calls.areaAfter (calls.judge (connection (clock .0) (now (name .entry)) true (now (extension .entry)) (now (hash .entry)) «handshake_finished» «key_is_point» «signature_correct» «breaks_correct»)) (now (area .entry)) ⌝ }
+    ensures answer { λ r. ⌜ judgementAnswer r ≡ calls.answer (calls.judge (connection (clock .0) (now (name .entry)) true (now (extension .entry)) (now (hash .entry)) checks)) (now (area .entry)) ⌝ }
+    ensures area { λ _. ⌜ now (area .exit) ≡ calls.areaAfter (calls.judge (connection (clock .0) (now (name .entry)) true (now (extension .entry)) (now (hash .entry)) checks)) (now (area .entry)) ⌝ }
 {
-    if let Checked::Refused(refusal) = connection::check_shown(
+    if let Checked::Refused(refusal) = connection::check_connection(
         area,
         clock,
-        handshake_finished,
         extension,
-        breaks_correct,
-        key_is_point,
         hash,
-        signature_correct,
+        checks,
     ) {
         return Judgement::Refused(refusal);
     }
@@ -121,14 +120,11 @@ fn judge_shown(
     name: &[u8],
     extension: &[u8],
     hash: &[u8],
-    handshake_finished: bool,
-    key_is_point: bool,
-    signature_correct: bool,
-    breaks_correct: u8,
+    checks: Checks,
 ) -> Judgement
     requires { ⌜ (sound (now area) ≡ true) × (decode (now area) .two ≡ false) ⌝ }
-    ensures answer { λ r. ⌜ judgementAnswer r ≡ calls.answer (calls.judge (connection clock (now (name .entry)) true (now (extension .entry)) (now (hash .entry)) «handshake_finished» «key_is_point» «signature_correct» «breaks_correct»)) (now (area .entry)) ⌝ }
-    ensures area { λ _. ⌜ now (area .exit) ≡ calls.areaAfter (calls.judge (connection clock (now (name .entry)) true (now (extension .entry)) (now (hash .entry)) «handshake_finished» «key_is_point» «signature_correct» «breaks_correct»)) (now (area .entry)) ⌝ }
+    ensures answer { λ r. ⌜ judgementAnswer r ≡ calls.answer (calls.judge (connection clock (now (name .entry)) true (now (extension .entry)) (now (hash .entry)) checks)) (now (area .entry)) ⌝ }
+    ensures area { λ _. ⌜ now (area .exit) ≡ calls.areaAfter (calls.judge (connection clock (now (name .entry)) true (now (extension .entry)) (now (hash .entry)) checks)) (now (area .entry)) ⌝ }
 {
     if !host_name::well_formed(name) {
         return Judgement::Refused(Refusal::NameMalformed);
@@ -136,17 +132,7 @@ fn judge_shown(
     let Clock::At(now) = Minutes::of_clock(clock) else {
         return Judgement::Refused(Refusal::ClockAboveLimit);
     };
-    judge_at(
-        area,
-        now,
-        name,
-        extension,
-        hash,
-        handshake_finished,
-        key_is_point,
-        signature_correct,
-        breaks_correct,
-    )
+    judge_at(area, now, name, extension, hash, checks)
 }
 
 // Where no extension came: what would have come with neither tack nor break signature.
@@ -160,39 +146,16 @@ fn judge_folded(
     extension_came: bool,
     extension: &[u8],
     hash: &[u8],
-    handshake_finished: bool,
-    key_is_point: bool,
-    signature_correct: bool,
-    breaks_correct: u8,
+    checks: Checks,
 ) -> Judgement
     requires { ⌜ (sound (now area) ≡ true) × (decode (now area) .two ≡ false) ⌝ }
-    ensures answer { λ r. ⌜ judgementAnswer r ≡ calls.answer (calls.judge (connection clock (now (name .entry)) «extension_came» (now (extension .entry)) (now (hash .entry)) «handshake_finished» «key_is_point» «signature_correct» «breaks_correct»)) (now (area .entry)) ⌝ }
-    ensures area { λ _. ⌜ now (area .exit) ≡ calls.areaAfter (calls.judge (connection clock (now (name .entry)) «extension_came» (now (extension .entry)) (now (hash .entry)) «handshake_finished» «key_is_point» «signature_correct» «breaks_correct»)) (now (area .entry)) ⌝ }
+    ensures answer { λ r. ⌜ judgementAnswer r ≡ calls.answer (calls.judge (connection clock (now (name .entry)) «extension_came» (now (extension .entry)) (now (hash .entry)) checks)) (now (area .entry)) ⌝ }
+    ensures area { λ _. ⌜ now (area .exit) ≡ calls.areaAfter (calls.judge (connection clock (now (name .entry)) «extension_came» (now (extension .entry)) (now (hash .entry)) checks)) (now (area .entry)) ⌝ }
 {
     if extension_came {
-        return judge_shown(
-            area,
-            clock,
-            name,
-            extension,
-            hash,
-            handshake_finished,
-            key_is_point,
-            signature_correct,
-            breaks_correct,
-        );
+        return judge_shown(area, clock, name, extension, hash, checks);
     }
-    judge_shown(
-        area,
-        clock,
-        name,
-        &NOTHING,
-        hash,
-        handshake_finished,
-        key_is_point,
-        signature_correct,
-        breaks_correct,
-    )
+    judge_shown(area, clock, name, &NOTHING, hash, checks)
 }
 
 // Judges on an area that is known to be sound, as every area of a run is: it makes no test of the whole area.
@@ -203,14 +166,11 @@ pub fn judge_sound_area(
     extension_came: bool,
     extension: &[u8],
     hash: &[u8],
-    handshake_finished: bool,
-    key_is_point: bool,
-    signature_correct: bool,
-    breaks_correct: u8,
+    checks: Checks,
 ) -> Judgement
     requires { ⌜ sound (now area) ≡ true ⌝ }
-    ensures answer { λ r. ⌜ judgementAnswer r ≡ calls.answer (calls.folded (calls.judge (connection clock (now (name .entry)) «extension_came» (now (extension .entry)) (now (hash .entry)) «handshake_finished» «key_is_point» «signature_correct» «breaks_correct»))) (now (area .entry)) ⌝ }
-    ensures area { λ _. ⌜ now (area .exit) ≡ calls.areaAfter (calls.folded (calls.judge (connection clock (now (name .entry)) «extension_came» (now (extension .entry)) (now (hash .entry)) «handshake_finished» «key_is_point» «signature_correct» «breaks_correct»))) (now (area .entry)) ⌝ }
+    ensures answer { λ r. ⌜ judgementAnswer r ≡ calls.answered (calls.judge (connection clock (now (name .entry)) «extension_came» (now (extension .entry)) (now (hash .entry)) checks)) (now (area .entry)) ⌝ }
+    ensures area { λ _. ⌜ now (area .exit) ≡ calls.areaLeft (calls.judge (connection clock (now (name .entry)) «extension_came» (now (extension .entry)) (now (hash .entry)) checks)) (now (area .entry)) ⌝ }
     ensures sound { λ _. ⌜ sound (now (area .exit)) ≡ true ⌝ }
 {
     if slots::is_two(area) {
@@ -226,10 +186,7 @@ pub fn judge_sound_area(
         extension_came,
         extension,
         hash,
-        handshake_finished,
-        key_is_point,
-        signature_correct,
-        breaks_correct,
+        checks,
     )
 }
 
@@ -242,27 +199,13 @@ pub fn judge(
     extension_came: bool,
     extension: &[u8],
     hash: &[u8],
-    handshake_finished: bool,
-    key_is_point: bool,
-    signature_correct: bool,
-    breaks_correct: u8,
+    checks: Checks,
 ) -> Judgement
-    ensures answer { λ r. ⌜ judgementAnswer r ≡ calls.answer (calls.folded (calls.judge (connection clock (now (name .entry)) «extension_came» (now (extension .entry)) (now (hash .entry)) «handshake_finished» «key_is_point» «signature_correct» «breaks_correct»))) (now (area .entry)) ⌝ }
-    ensures area { λ _. ⌜ now (area .exit) ≡ calls.areaAfter (calls.folded (calls.judge (connection clock (now (name .entry)) «extension_came» (now (extension .entry)) (now (hash .entry)) «handshake_finished» «key_is_point» «signature_correct» «breaks_correct»))) (now (area .entry)) ⌝ }
+    ensures answer { λ r. ⌜ judgementAnswer r ≡ calls.answered (calls.judge (connection clock (now (name .entry)) «extension_came» (now (extension .entry)) (now (hash .entry)) checks)) (now (area .entry)) ⌝ }
+    ensures area { λ _. ⌜ now (area .exit) ≡ calls.areaLeft (calls.judge (connection clock (now (name .entry)) «extension_came» (now (extension .entry)) (now (hash .entry)) checks)) (now (area .entry)) ⌝ }
 {
-    if let Checked::Refused(refusal) = pin_checks::check_area(area) {
+    if let Checked::Refused(refusal) = pin_refusals::area::check_area(area) {
         return Judgement::Refused(refusal);
     }
-    judge_sound_area(
-        area,
-        clock,
-        name,
-        extension_came,
-        extension,
-        hash,
-        handshake_finished,
-        key_is_point,
-        signature_correct,
-        breaks_correct,
-    )
+    judge_sound_area(area, clock, name, extension_came, extension, hash, checks)
 }

@@ -1,2 +1,1 @@
 pub mod KnownTwo
-pub mod StepsTwo

@@ -3,6 +3,7 @@ use host_name::folding;
 use pin_answers::Checked;
 use pin_answers::Judgement;
 use pin_answers::Refusal;
+use pin_model::ChecksTwo;
 use pin_records::read;
 use pin_steps_two::apply;
 use pin_table::minutes::Clock;
@@ -14,13 +15,13 @@ ghost use mathlib.Core.Path.{_≡_};
 ghost use mathlib.Core.Bool.{true};
 ghost use Rattle.pin_model.specs.Layout.{decode, encode};
 ghost use Rattle.pin_model.specs.Sound.{sound};
-ghost use Rattle.pin_model.specs.JudgeTwo.{connectionTwo};
+ghost use Rattle.pin_model.specs.Connection.{connection};
+ghost use Rattle.pin_model.specs.Refusals as refusals;
 ghost use Rattle.pin_model.specs.Calls as calls;
-ghost use Rattle.pin_answers.specs.Numbers.{judgementAnswer};
-ghost use Rattle.pin_tests_two.specs.Parts.{tacksBy, TackParts};
-ghost use Rattle.pin_tests_two.specs.TestsTwo.{partsTests};
+ghost use Rattle.pin_answers.specs.Numbers.{judgementTwoAnswer};
+ghost use Rattle.pin_refusals_two.specs.Parts.{tacksBy, bothTacks, TackParts};
+ghost use Rattle.pin_steps_two.specs.StepsTwo.{stepsTwo, stepsAnswerTwo};
 ghost use Rattle.pin_judge_two.specs.KnownTwo.{AdmittedTwo, InOrderTwo};
-ghost use Rattle.pin_judge_two.specs.StepsTwo.{partsAnswer, partsTable};
 
 // 24, those of each tack, 22, and the steps where none applies.
 fn judge_parts(
@@ -31,25 +32,19 @@ fn judge_parts(
     second: &[u8],
     flags: u8,
     hash: &[u8],
-    first_is_point: bool,
-    first_correct: bool,
-    second_is_point: bool,
-    second_correct: bool,
+    checks: ChecksTwo,
 ) -> Judgement
     requires { ⌜ InOrderTwo (now area) (now name) (clock .0) × TackParts (now first) (now second) ⌝ }
-    ensures answer { λ r. ⌜ judgementAnswer r ≡ calls.answerBy (calls.first (partsTests (clock .0) (now (hash .entry)) «first_is_point» «first_correct» «second_is_point» «second_correct» (now (first .entry)) (now (second .entry)) (decode (now (area .entry))))) (partsAnswer (now (name .entry)) (clock .0) (tacksBy (now (first .entry)) (now (second .entry)) flags) (decode (now (area .entry)))) ⌝ }
-    ensures area { λ _. ⌜ now (area .exit) ≡ calls.areaBy (calls.first (partsTests (clock .0) (now (hash .entry)) «first_is_point» «first_correct» «second_is_point» «second_correct» (now (first .entry)) (now (second .entry)) (decode (now (area .entry))))) (now (area .entry)) (encode (partsTable (now (name .entry)) (clock .0) (tacksBy (now (first .entry)) (now (second .entry)) flags) (decode (now (area .entry))))) ⌝ }
+    ensures answer { λ r. ⌜ judgementTwoAnswer r ≡ calls.answerBy true (refusals.first (refusals.tacksTests (clock .0) (now (hash .entry)) checks (decode (now (area .entry))) (now (first .entry)) (now (second .entry)) (bothTacks (now (first .entry)) (now (second .entry))))) (stepsAnswerTwo (now (name .entry)) (clock .0) (tacksBy (now (first .entry)) (now (second .entry)) flags) (decode (now (area .entry)))) ⌝ }
+    ensures area { λ _. ⌜ now (area .exit) ≡ calls.areaBy (refusals.first (refusals.tacksTests (clock .0) (now (hash .entry)) checks (decode (now (area .entry))) (now (first .entry)) (now (second .entry)) (bothTacks (now (first .entry)) (now (second .entry))))) (λ n. now (area .entry)) (encode (stepsTwo (now (name .entry)) (clock .0) (tacksBy (now (first .entry)) (now (second .entry)) flags) (decode (now (area .entry))))) ⌝ }
 {
-    if let Checked::Refused(refusal) = pin_tests_two::check_tacks(
+    if let Checked::Refused(refusal) = pin_refusals_two::check_tacks(
         area,
         clock,
         first,
         second,
         hash,
-        first_is_point,
-        first_correct,
-        second_is_point,
-        second_correct,
+        checks,
     ) {
         return Judgement::Refused(refusal);
     }
@@ -67,36 +62,20 @@ fn judge_at(
     extension_came: bool,
     extension: &[u8],
     hash: &[u8],
-    handshake_finished: bool,
-    first_is_point: bool,
-    first_correct: bool,
-    second_is_point: bool,
-    second_correct: bool,
+    checks: ChecksTwo,
 ) -> Judgement
     requires { ⌜ AdmittedTwo (now area) (now name) (clock .0) ⌝ }
-    ensures answer { λ r. ⌜ judgementAnswer r ≡ calls.answer (calls.judgeTwo (connectionTwo (clock .0) (now (name .entry)) «extension_came» (now (extension .entry)) (now (hash .entry)) «handshake_finished» «first_is_point» «first_correct» «second_is_point» «second_correct»)) (now (area .entry)) ⌝ }
-    ensures area { λ _. ⌜ now (area .exit) ≡ calls.areaAfter (calls.judgeTwo (connectionTwo (clock .0) (now (name .entry)) «extension_came» (now (extension .entry)) (now (hash .entry)) «handshake_finished» «first_is_point» «first_correct» «second_is_point» «second_correct»)) (now (area .entry)) ⌝ }
+    ensures answer { λ r. ⌜ judgementTwoAnswer r ≡ calls.answer (calls.judgeTwo (connection (clock .0) (now (name .entry)) «extension_came» (now (extension .entry)) (now (hash .entry)) checks)) (now (area .entry)) ⌝ }
+    ensures area { λ _. ⌜ now (area .exit) ≡ calls.areaAfter (calls.judgeTwo (connection (clock .0) (now (name .entry)) «extension_came» (now (extension .entry)) (now (hash .entry)) checks)) (now (area .entry)) ⌝ }
 {
     if clock.count() < read::latest(area).count() {
         return Judgement::Refused(Refusal::ClockBeforeLatest);
     }
-    if !handshake_finished {
+    if !checks.handshake_finished {
         return Judgement::Refused(Refusal::HandshakeUnfinished);
     }
     if !extension_came {
-        return judge_parts(
-            area,
-            clock,
-            name,
-            &NOTHING,
-            &NOTHING,
-            0,
-            hash,
-            first_is_point,
-            first_correct,
-            second_is_point,
-            second_correct,
-        );
+        return judge_parts(area, clock, name, &NOTHING, &NOTHING, 0, hash, checks);
     }
     let Reading::WellFormed { flags } = reader::read(extension) else {
         return Judgement::Refused(Refusal::ExtensionMalformed);
@@ -109,10 +88,7 @@ fn judge_at(
         reader::second_tack(extension),
         flags,
         hash,
-        first_is_point,
-        first_correct,
-        second_is_point,
-        second_correct,
+        checks,
     )
 }
 
@@ -124,15 +100,11 @@ fn judge_folded(
     extension_came: bool,
     extension: &[u8],
     hash: &[u8],
-    handshake_finished: bool,
-    first_is_point: bool,
-    first_correct: bool,
-    second_is_point: bool,
-    second_correct: bool,
+    checks: ChecksTwo,
 ) -> Judgement
     requires { ⌜ (sound (now area) ≡ true) × (decode (now area) .two ≡ true) ⌝ }
-    ensures answer { λ r. ⌜ judgementAnswer r ≡ calls.answer (calls.judgeTwo (connectionTwo clock (now (name .entry)) «extension_came» (now (extension .entry)) (now (hash .entry)) «handshake_finished» «first_is_point» «first_correct» «second_is_point» «second_correct»)) (now (area .entry)) ⌝ }
-    ensures area { λ _. ⌜ now (area .exit) ≡ calls.areaAfter (calls.judgeTwo (connectionTwo clock (now (name .entry)) «extension_came» (now (extension .entry)) (now (hash .entry)) «handshake_finished» «first_is_point» «first_correct» «second_is_point» «second_correct»)) (now (area .entry)) ⌝ }
+    ensures answer { λ r. ⌜ judgementTwoAnswer r ≡ calls.answer (calls.judgeTwo (connection clock (now (name .entry)) «extension_came» (now (extension .entry)) (now (hash .entry)) checks)) (now (area .entry)) ⌝ }
+    ensures area { λ _. ⌜ now (area .exit) ≡ calls.areaAfter (calls.judgeTwo (connection clock (now (name .entry)) «extension_came» (now (extension .entry)) (now (hash .entry)) checks)) (now (area .entry)) ⌝ }
 {
     if !host_name::well_formed(name) {
         return Judgement::Refused(Refusal::NameMalformed);
@@ -140,19 +112,7 @@ fn judge_folded(
     let Clock::At(now) = Minutes::of_clock(clock) else {
         return Judgement::Refused(Refusal::ClockAboveLimit);
     };
-    judge_at(
-        area,
-        now,
-        name,
-        extension_came,
-        extension,
-        hash,
-        handshake_finished,
-        first_is_point,
-        first_correct,
-        second_is_point,
-        second_correct,
-    )
+    judge_at(area, now, name, extension_came, extension, hash, checks)
 }
 
 // Judges one finished connection of edition two: 10 to 16, 18 to 24 or 27, or a verdict and whether there was no room for a record
@@ -164,16 +124,12 @@ pub fn judge(
     extension_came: bool,
     extension: &[u8],
     hash: &[u8],
-    handshake_finished: bool,
-    first_is_point: bool,
-    first_correct: bool,
-    second_is_point: bool,
-    second_correct: bool,
+    checks: ChecksTwo,
 ) -> Judgement
-    ensures answer { λ r. ⌜ judgementAnswer r ≡ calls.answer (calls.folded (calls.judgeTwo (connectionTwo clock (now (name .entry)) «extension_came» (now (extension .entry)) (now (hash .entry)) «handshake_finished» «first_is_point» «first_correct» «second_is_point» «second_correct»))) (now (area .entry)) ⌝ }
-    ensures area { λ _. ⌜ now (area .exit) ≡ calls.areaAfter (calls.folded (calls.judgeTwo (connectionTwo clock (now (name .entry)) «extension_came» (now (extension .entry)) (now (hash .entry)) «handshake_finished» «first_is_point» «first_correct» «second_is_point» «second_correct»))) (now (area .entry)) ⌝ }
+    ensures answer { λ r. ⌜ judgementTwoAnswer r ≡ calls.answered (calls.judgeTwo (connection clock (now (name .entry)) «extension_came» (now (extension .entry)) (now (hash .entry)) checks)) (now (area .entry)) ⌝ }
+    ensures area { λ _. ⌜ now (area .exit) ≡ calls.areaLeft (calls.judgeTwo (connection clock (now (name .entry)) «extension_came» (now (extension .entry)) (now (hash .entry)) checks)) (now (area .entry)) ⌝ }
 {
-    if let Checked::Refused(refusal) = pin_checks::check_area(area) {
+    if let Checked::Refused(refusal) = pin_refusals::area::check_area(area) {
         return Judgement::Refused(refusal);
     }
     if !slots::is_two(area) {
@@ -189,10 +145,6 @@ pub fn judge(
         extension_came,
         extension,
         hash,
-        handshake_finished,
-        first_is_point,
-        first_correct,
-        second_is_point,
-        second_correct,
+        checks,
     )
 }

@@ -1,4 +1,4 @@
--- Deletion of a name that has records, and of one that has none. Assumes nothing.
+-- Deletion of a name that has records, and of one that has none.
 use mathlib.Core.Path.{_≡_, sym, ap, _∙_}
 use mathlib.Core.Bool.{Bool, true, false, cond}
 use mathlib.Core.List.{List}
@@ -10,13 +10,13 @@ use Rattle.pin_model.specs.Layout.{encode, decode}
 use Rattle.pin_model.specs.Calls.{plain, refusal, answer, areaAfter, delete}
 use Rattle.pin_records.specs.Holds.{Holds, Stored, withoutUnnamed}
 use Rattle.pin_records.proofs.HeldSlots.{holds-decode}
-use Rattle.pin_checks.proofs.Passed.{call-granted}
+use Rattle.pin_refusals.proofs.Passed.{call-passed}
 
-module _ (b name : List ℕ) (granted : refusal (delete name) b ≡ none) where
+module _ (b name : List ℕ) (passes : refusal (delete name) b ≡ none) where
   by-records : (recorded : Bool) → nameRecorded name (decode b) ≡ recorded
       → (plain (cond recorded 3 4) ≡ answer (delete name) b) × (encode (cond recorded (without name (decode b)) (decode b)) ≡ areaAfter (delete name) b)
   by-records recorded e =
-      let w = call-granted (delete name) b granted in (
+      let w = call-passed (delete name) b passes in (
         ap (λ (t : Bool). plain (cond t 3 4)) (sym e) ∙ w .0,
         ap (λ (t : Bool). encode (cond t (without name (decode b)) (decode b))) (sym e) ∙ w .1,
       )

@@ -1,4 +1,4 @@
--- The difference of two numbers of 32 bits, as 64 bits with a sign. Assumes nothing.
+-- The difference of two numbers of 32 bits, as 64 bits with a sign.
 use mathlib.Core.Path.{_≡_, sym, ap₂, subst, _∙_}
 use mathlib.Core.Bool.{Bool, true, false, cond}
 use Prim.Native.Nat.{ℕ, zero, suc, _-_, _<_}

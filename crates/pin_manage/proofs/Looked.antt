@@ -1,7 +1,7 @@
--- Inspection of a name by its first or second record, and of one that has no such record. Assumes nothing.
+-- Inspection of a name by its first or second record, and of one that has no such record.
 use mathlib.Core.Path.{_≡_, refl, sym, ap, _∙_}
 use mathlib.Core.Bool.{Bool, true, false, true≢false}
-use mathlib.Core.List.{List, [], _∷_}
+use mathlib.Core.List.{List, [], _∷_, _++_}
 use mathlib.Core.Option.{Option, none, some}
 use Prim.Native.Nat.{ℕ, _≤_, _<_}
 use native.Mathlib.Omega.{arith}
@@ -10,28 +10,29 @@ use lib.IntN.{ℤ, pos, _-ℤ_}
 use lib.ListN.{length, getD, List·getD-eq-default}
 use Rattle.octets.specs.Octets.{same}
 use Rattle.octets.proofs.Tests.{byTest}
-use Rattle.tack_extension.proofs.Steps.{clash, byOption}
+use Rattle.octets.proofs.Options.{clash, byOption}
 use Rattle.pin_table.specs.declared.minutes.Minutes.{Minutes}
 use Rattle.pin_model.specs.Slots.{used}
 use Rattle.pin_model.specs.Table.{clockLimit, KeyRecord, NameRecord, nameIs}
 use Rattle.pin_model.specs.Layout.{decode, placeOf}
-use Rattle.pin_model.specs.Calls.{Answer, first, plain, refusal, answer, inspect, floorOf, inspectedWith, inspectedIn, inspectedSecond, inspectedBy}
+use Rattle.pin_model.specs.Fits.{holds}
+use Rattle.pin_model.specs.Refusals.{first, areaTests, nameTest, limitTest}
+use Rattle.pin_model.specs.Calls.{Answer, answerOf, plain, refusal, answer, inspect, floorOf, inspectedWith, inspectedIn, inspectedSecond, inspectedBy}
 use Rattle.pin_model.proofs.First.{first-here, first-later}
 use Rattle.pin_table.specs.declared.slots.NameSlot.{NameSlot}
 use Rattle.pin_records.specs.Holds.{Stored}
-use Rattle.pin_records.specs.Find.{holds, isFree, firstSlot, secondSlot, nameFound, floorAt, initialAt, endAt}
+use Rattle.pin_records.specs.Find.{isFree, firstSlot, secondSlot, nameFound, floorAt, initialAt, endAt}
 use Rattle.pin_records.specs.Read.{endFound, pinnedKey}
 use Rattle.pin_records.specs.declared.read.PinEnd.the-variants as pin-end
 use Rattle.pin_records.specs.declared.find.FoundName.the-variants as name-found
 use Rattle.pin_records.proofs.Placed.{first-passes, holds-used}
 use Rattle.pin_records.proofs.Found.{name-there, name-not-there}
 use Rattle.pin_records.proofs.SecondSlots.{second-passes}
-use Rattle.pin_checks.specs.Tests.{namedTests}
-use Rattle.pin_checks.proofs.Passed.{call-refused, call-granted}
+use Rattle.pin_refusals.proofs.Passed.{call-refused, call-passed}
 use Rattle.pin_manage.specs.Inspected.{recordSlot, inspectedSlot}
 
 -- the floor in a key's own slot is the floor of the key
-pub floor-placed : (key : List ℕ) (keys : List (Option KeyRecord)) → floorAt (getD keys (placeOf key keys) none) ≡ floorOf key (used keys)
+floor-placed : (key : List ℕ) (keys : List (Option KeyRecord)) → floorAt (getD keys (placeOf key keys) none) ≡ floorOf key (used keys)
 floor-placed key [] = refl
 floor-placed key (none ∷ keys) = floor-placed key keys
 floor-placed key (some x ∷ keys) = byTest (same (x .key) key) (λ e. simp e) (λ e. simp e (floor-placed key keys))
@@ -72,27 +73,27 @@ record-used second name names slots n e =
     (omega (arith, t .0, t .1), holds-used (nameIs name) (getD names (n .0) none) here)
 
 module _ (second : Bool) (b name : List ℕ) (clock : ℕ) where
-  pub inspect-refused : (n : ℕ) → first (namedTests b name) ≡ some n → plain n ≡ answer (inspect second name clock) b
+  pub inspect-refused : (n : ℕ) → first (areaTests b ++ nameTest name) ≡ some n → plain n ≡ answer (inspect second name clock) b
   unfolding refusal
   inspect-refused n e =
-      call-refused (inspect second name clock) b n (first-here (namedTests b name) ((ltb clockLimit clock, 13) ∷ []) n e) .0
+      call-refused (inspect second name clock) b n (first-here (areaTests b ++ nameTest name) (limitTest clock) n e) .0
 
-  pub inspect-late : first (namedTests b name) ≡ none → ltb clockLimit clock ≡ true → plain 13 ≡ answer (inspect second name clock) b
+  pub inspect-late : first (areaTests b ++ nameTest name) ≡ none → ltb clockLimit clock ≡ true → plain 13 ≡ answer (inspect second name clock) b
   unfolding refusal
   inspect-late e late =
-      call-refused (inspect second name clock) b 13 (first-later (namedTests b name) ((ltb clockLimit clock, 13) ∷ []) e ∙ simp late) .0
+      call-refused (inspect second name clock) b 13 (first-later (areaTests b ++ nameTest name) (limitTest clock) e ∙ simp late) .0
 
-  module _ (e : first (namedTests b name) ≡ none) (inTime : ltb clockLimit clock ≡ false) where
+  module _ (e : first (areaTests b ++ nameTest name) ≡ none) (inTime : ltb clockLimit clock ≡ false) where
     inspect-passed : refusal (inspect second name clock) b ≡ none
     unfolding refusal
-    inspect-passed = first-later (namedTests b name) ((ltb clockLimit clock, 13) ∷ []) e ∙ simp inTime
+    inspect-passed = first-later (areaTests b ++ nameTest name) (limitTest clock) e ∙ simp inTime
 
     inspect-at : (i : ℕ) → recordSlot second name (decode b .names) ≡ i
         → inspectedSlot clock (decode b .keys) (getD (decode b .names) i none) ≡ answer (inspect second name clock) b
     inspect-at i f =
         ap (λ (i : ℕ). inspectedSlot clock (decode b .keys) (getD (decode b .names) i none)) (sym f)
         ∙ record-inspected name clock (decode b .keys) second (decode b .names)
-        ∙ call-granted (inspect second name clock) b inspect-passed .0
+        ∙ call-passed (inspect second name clock) b inspect-passed .0
 
     pub inspect-nothing : Stored b → name-found.Nothing ≡ nameFound (recordSlot second name (decode b .names)) → plain 4 ≡ answer (inspect second name clock) b
     inspect-nothing stored f =
@@ -128,5 +129,5 @@ module _ (clock : ℕ) (keys : List (Option KeyRecord)) (floor initial : ℕ) wh
 
 -- the answer with an end, from the numbers that stand in it
 pub answer-with-end : (floor initial end clock : ℕ) {e : ℕ} {left : ℤ} → e ≡ end → left ≡ pos end -ℤ pos clock
-    → _≡_ {A = Answer} (record { number = 6; noRoom = false; floor = floor; initial = initial; end = e; minutesLeft = left }) (inspectedWith clock floor initial (some end))
+    → _≡_ {A = Answer} (answerOf false 6 false floor initial e left) (inspectedWith clock floor initial (some end))
 answer-with-end floor initial end clock he hl = rw (he, hl) refl

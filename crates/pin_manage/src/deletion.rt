@@ -11,10 +11,11 @@ ghost use mathlib.Core.Path.{_≡_};
 ghost use Rattle.pin_model.specs.Slots.{freed};
 ghost use Rattle.pin_model.specs.Table.{holding, nameIs};
 ghost use Rattle.pin_model.specs.Layout.{decode};
+ghost use Rattle.pin_model.specs.Fits.{holds};
 ghost use Rattle.pin_model.specs.Calls as calls;
 ghost use Rattle.pin_answers.specs.Numbers.{deletionAnswer};
 ghost use Rattle.pin_records.specs.Holds.{Holds, Stored};
-ghost use Rattle.pin_records.specs.Find.{holds, firstSlot};
+ghost use Rattle.pin_records.specs.Find.{firstSlot};
 
 // The name's records go, from the slot of the first on: one in edition one, up to two in edition two.
 fn drop_records(area: &mut [u8], name: &[u8], first: NameSlot)
@@ -35,7 +36,7 @@ fn delete_folded(area: &mut [u8], name: &[u8]) -> Deletion
     ensures answer { λ r. ⌜ deletionAnswer r ≡ calls.answer (calls.delete (now (name .entry))) (now (area .entry)) ⌝ }
     ensures area { λ _. ⌜ now (area .exit) ≡ calls.areaAfter (calls.delete (now (name .entry))) (now (area .entry)) ⌝ }
 {
-    if let Checked::Refused(refusal) = pin_checks::check_name(area, name) {
+    if let Checked::Refused(refusal) = pin_refusals::area::check_name(area, name) {
         return Deletion::Refused(refusal);
     }
     let FoundName::At(first) = find::find_name(area, name) else {
@@ -48,8 +49,8 @@ fn delete_folded(area: &mut [u8], name: &[u8]) -> Deletion
 
 // 10, 11, 12, 3 or 4. Latest stays as it was.
 pub fn delete(area: &mut [u8], name: &[u8]) -> Deletion
-    ensures answer { λ r. ⌜ deletionAnswer r ≡ calls.answer (calls.folded (calls.delete (now (name .entry)))) (now (area .entry)) ⌝ }
-    ensures area { λ _. ⌜ now (area .exit) ≡ calls.areaAfter (calls.folded (calls.delete (now (name .entry)))) (now (area .entry)) ⌝ }
+    ensures answer { λ r. ⌜ deletionAnswer r ≡ calls.answered (calls.delete (now (name .entry))) (now (area .entry)) ⌝ }
+    ensures area { λ _. ⌜ now (area .exit) ≡ calls.areaLeft (calls.delete (now (name .entry))) (now (area .entry)) ⌝ }
 {
     let mut bytes = [0u8; 254];
     let n = folding::fold(name, &mut bytes);

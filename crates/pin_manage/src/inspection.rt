@@ -63,7 +63,7 @@ fn inspect_slot(area: &[u8], n: NameSlot, clock: Minutes) -> Inspection
 fn inspect_folded(area: &[u8], name: &[u8], clock: u64, second: bool) -> Inspection
     ensures { λ r. ⌜ inspectionAnswer r ≡ calls.answer (calls.inspect second (now (name .entry)) clock) (now (area .entry)) ⌝ }
 {
-    if let Checked::Refused(refusal) = pin_checks::check_name(area, name) {
+    if let Checked::Refused(refusal) = pin_refusals::area::check_name(area, name) {
         return Inspection::Refused(refusal);
     }
     let Clock::At(at) = Minutes::of_clock(clock) else {
@@ -77,7 +77,7 @@ fn inspect_folded(area: &[u8], name: &[u8], clock: u64, second: bool) -> Inspect
 
 // 10, 11, 12, 13, 4, 5 or 6.
 pub fn inspect(area: &[u8], name: &[u8], clock: u64, second: bool) -> Inspection
-    ensures { λ r. ⌜ inspectionAnswer r ≡ calls.answer (calls.folded (calls.inspect second (now (name .entry)) clock)) (now (area .entry)) ⌝ }
+    ensures { λ r. ⌜ inspectionAnswer r ≡ calls.answered (calls.inspect second (now (name .entry)) clock) (now (area .entry)) ⌝ }
 {
     let mut bytes = [0u8; 254];
     let n = folding::fold(name, &mut bytes);

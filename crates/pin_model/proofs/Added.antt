@@ -1,4 +1,4 @@
--- One record more, in either edition: the table stays sound if the name may have it and its key has room. Assumes nothing.
+-- One record more, in either edition: the table stays sound if the name may have it and its key has room.
 use mathlib.Core.Path.{_≡_, refl, sym, _∙_, ap, subst}
 use mathlib.Core.Bool.{Bool, true, false, cond, not, _&&_, _||_}
 use mathlib.Core.List.{List, _∷_}
@@ -13,8 +13,9 @@ use Rattle.octets.proofs.Equal.{same-true}
 use Rattle.host_name.specs.Name.{wellFormed}
 use Rattle.tack_extension.specs.Tack.{publicKey}
 use Rattle.pin_model.specs.Slots.{used, hasFree, placed}
-use Rattle.pin_model.specs.Table.{NameRecord, Table, holding, keyIs, nameIs, pinnedTo, pinIs, keyRecorded, recordsOfAName, soundName}
-use Rattle.pin_model.specs.Judge.{madeFor, newKey, keyedFor}
+use Rattle.pin_model.specs.Table.{NameRecord, Table, holding, keyIs, nameIs, pinnedTo, pinIs, keyRecorded, recordsOfAName}
+use Rattle.pin_model.specs.SoundTable.{soundName}
+use Rattle.pin_model.specs.Judge.{newName, newKey, keyedFor}
 use Rattle.pin_model.proofs.Lists.{bit, count, Alike, alike-any, count-none, any-not}
 use Rattle.pin_model.proofs.Slots.{count-placed, any-placed, length-placed}
 use Rattle.pin_model.proofs.SoundFacts.{SoundFacts}
@@ -63,7 +64,7 @@ alike-all : {A : Type 0} (p : A → Bool) (l m : List A) → Alike l m → all p
 alike-all p l m h e = not-false (all p l) (sym (any-not p l) ∙ alike-any l m h (λ x. not (p x)) ∙ any-not p m ∙ ap not e)
 
 pub added-keeps : (name : List ℕ) (clock : ℕ) (tack : List ℕ) {left : Table} → SoundFacts left
-    → (names : List (Option NameRecord)) → Alike (used names) (madeFor name clock tack ∷ used (left .names)) → length names ≡ 128
+    → (names : List (Option NameRecord)) → Alike (used names) (newName name clock tack ∷ used (left .names)) → length names ≡ 128
     → (keyRecorded (publicKey tack) left || hasFree (left .keys)) ≡ true
     → count (nameIs name) (used (left .names)) < recordsOfAName (left .two)
     → any (pinIs name (publicKey tack)) (used (left .names)) ≡ false
@@ -95,8 +96,8 @@ added-keeps name clock tack {left} facts names alike long room few own formed in
           (λ e. omega (arith, alike (pinIs n k), ap bit e, facts .pinOnce n k));
       recordedWhilePinned = λ k.
           keyed-recorded tack facts room k ∙ ap (λ (b : Bool). same (publicKey tack) k || b) (facts .recordedWhilePinned k)
-          ∙ sym (alike-any (used names) (madeFor name clock tack ∷ used (left .names)) alike (pinnedTo k));
+          ∙ sym (alike-any (used names) (newName name clock tack ∷ used (left .names)) alike (pinnedTo k));
       namesSound =
-          alike-all (soundName (left .latest)) (used names) (madeFor name clock tack ∷ used (left .names)) alike
+          alike-all (soundName (left .latest)) (used names) (newName name clock tack ∷ used (left .names)) alike
           (rw (formed, le-leb clock (left .latest) inOrder) (facts .namesSound));
     }

@@ -1,6 +1,5 @@
 -- 'In edition one everything reads as before' (document 02, Q-3): the areas that were sound before are the sound ones of edition
 -- one, on them judging is refused for what it was refused for before, and a start without the yes gives the area that it gave.
--- Assumes nothing.
 use mathlib.Core.Path.{_≡_, refl, sym, _∙_, ap, ap₂}
 use mathlib.Core.Bool.{Bool, true, false, cond, not, _&&_, _||_, false≢true, and-true, and-false, and-comm}
 use mathlib.Core.List.{List}
@@ -14,10 +13,11 @@ use Rattle.octets.specs.Octets.{part, all, allZero}
 use Rattle.octets.specs.Search.{every}
 use Rattle.octets.proofs.Tests.{byTest}
 use Rattle.pin_model.specs.Table.{clockLimit, Table}
-use Rattle.pin_model.specs.Layout.{areaLength}
-use Rattle.pin_model.specs.Sound.{latestIn, ofTwo, headSound, keysShaped, keysDistinct, namesShaped, nameTwice, pinTwice, nameThrice, nameAgain, namesDistinct, namesKeyed, keysNamed, sound}
-use Rattle.pin_model.specs.Judge.{Connection, connectionTests}
-use Rattle.pin_model.specs.Calls.{judge, start, first, laterTests, areaAfter}
+use Rattle.pin_model.specs.Layout.{areaLength, latestIn, ofTwo}
+use Rattle.pin_model.specs.Sound.{headSound, keysShaped, keysDistinct, namesShaped, nameTwice, pinTwice, nameThrice, nameAgain, namesDistinct, namesKeyed, keysNamed, sound}
+use Rattle.pin_model.specs.Connection.{Connection}
+use Rattle.pin_model.specs.Refusals.{connectionTests, first}
+use Rattle.pin_model.specs.Calls.{judge, start, tableTestsOf, areaAfter}
 use Rattle.pin_model.proofs.SoundTable.{empty-zeros}
 use Rattle.pin_model.proofs.AreaKept.{started}
 
@@ -85,7 +85,7 @@ sound-before b = byTest (eqb (length b) areaLength) long short
         ∙ turn (headSound b) (ofTwo b) (keysShaped b) (keysDistinct b) (namesShaped b) (namesDistinct b) (namesKeyed b) (keysNamed b))
 
 -- 27 is not given
-pub refused-before : (c : Connection) (t : Table) → t .two ≡ false → first (laterTests (judge c) t) ≡ first (connectionTests c t)
+pub refused-before : (c : Connection) (t : Table) → t .two ≡ false → first (tableTestsOf (judge c) t) ≡ first (connectionTests c t)
 refused-before c t e = rw e
 
 -- 'started', 'all zero'

@@ -1,13 +1,13 @@
 -- Laws of the tests on lists: `any`, `all` and `count`, what striking and rewriting do to them, and the same elements in another
--- order. Assumes nothing.
+-- order.
 use mathlib.Core.Path.{_≡_, refl, sym, _∙_, ap, ap₂, fun-ext}
 use mathlib.Core.Bool.{Bool, true, false, cond, not, _&&_, _||_, true≢false, false≢true, or-true, not-and-self, and-or-distrib-right}
 use mathlib.Core.List.{List, [], _∷_, _++_, map}
-use Prim.Native.Nat.{ℕ, suc, _+_, _≤_, _<_}
+use Prim.Native.Nat.{ℕ, zero, suc, _+_, _≤_, _<_}
 use native.Mathlib.Omega.{arith}
 use native.Mathlib.Nat.{zero-add}
 use lib.Dec.{ltb}
-use lib.ListN.{length}
+use lib.ListN.{length, drop}
 use borrow.Author.Tests.{ltb-true, ltb-false, lt-ltb}
 use Rattle.octets.specs.Octets.{all, any}
 use Rattle.octets.proofs.Tests.{is-false, both-ways, and-left, and-right, and-both}
@@ -49,7 +49,7 @@ module _ {A : Type 0} where
   pub some-count : (p : A → Bool) (l : List A) → 0 < count p l → any p l ≡ true
   some-count p l h = any-count p l ∙ lt-ltb 0 (count p l) h
 
-  pub count-all : (l : List A) → count (λ x. true) l ≡ length l
+  count-all : (l : List A) → count (λ x. true) l ≡ length l
   count-all [] = refl
   count-all (x ∷ xs) = let ih = count-all xs in omega arith
 
@@ -73,11 +73,20 @@ module _ {A : Type 0} where
       go false true k ih = omega arith
       go false false k ih = omega arith
 
-  pub any-implied : (p q : A → Bool) → ((x : A) → p x ≡ true → q x ≡ true) → (l : List A) → any p l ≡ true → any q l ≡ true
+  any-implied : (p q : A → Bool) → ((x : A) → p x ≡ true → q x ≡ true) → (l : List A) → any p l ≡ true → any q l ≡ true
   any-implied p q h l e = some-count q l (omega (arith, count-some p l e, count-implied p q h l))
 
   pub none-implied : (p q : A → Bool) → ((x : A) → p x ≡ true → q x ≡ true) → (l : List A) → any q l ≡ false → any p l ≡ false
   none-implied p q h l e = is-false (any p l) (λ d. true≢false (sym (any-implied p q h l d) ∙ e))
+
+  pub any-drop : (p : A → Bool) (k : ℕ) (l : List A) → any p (drop k l) ≡ true → any p l ≡ true
+  any-drop p zero l e = e
+  any-drop p (suc k) [] e = e
+  any-drop p (suc k) (x ∷ l) e = ap (λ (b : Bool). p x || b) (any-drop p k l e) ∙ or-true (p x)
+
+  pub all-append : (p : A → Bool) (l m : List A) → all p l ≡ true → all p m ≡ true → all p (l ++ m) ≡ true
+  all-append p [] m e f = f
+  all-append p (x ∷ l) m e f = and-both (p x) (all p (l ++ m)) (and-left (p x) (all p l) e) (all-append p l m (and-right (p x) (all p l) e) f)
 
   pub all-implied : (p q : A → Bool) → ((x : A) → p x ≡ true → q x ≡ true) → (l : List A) → all p l ≡ true → all q l ≡ true
   all-implied p q h [] e = refl
@@ -113,7 +122,7 @@ module _ {A : Type 0} where
       go false false a = refl
 
   -- without the elements that pass
-  pub count-struck : (p q : A → Bool) (l : List A) → count p (struck q l) ≡ count (λ x. not (q x) && p x) l
+  count-struck : (p q : A → Bool) (l : List A) → count p (struck q l) ≡ count (λ x. not (q x) && p x) l
   count-struck p q [] = refl
   count-struck p q (x ∷ xs) =
       elim (q x) as (λ b. count p (cond b (struck q xs) (x ∷ struck q xs)) ≡ bit (not b && p x) + count (λ y. not (q y) && p y) xs) [
@@ -159,7 +168,7 @@ module _ {A : Type 0} where
   any-rewritten p q f [] = refl
   any-rewritten p q f (x ∷ xs) = ap (λ (b : Bool). p (cond (q x) (f x) x) || b) (any-rewritten p q f xs)
 
-  pub count-replace : (p q : A → Bool) (a : A) (l : List A)
+  count-replace : (p q : A → Bool) (a : A) (l : List A)
       → count p (rewritten q (λ x. a) l) ≡ cond (p a) (count q l) 0 + count p (struck q l)
   count-replace p q a [] = elim (p a) as (λ b. 0 ≡ cond b 0 0 + 0) [ true ↦ refl | false ↦ refl ]
   count-replace p q a (x ∷ xs) =

@@ -1,25 +1,26 @@
--- No name too often: of an area, by its slots, and of its table, by its records. Assumes nothing.
-use mathlib.Core.Path.{_≡_, refl, sym, _∙_, ap, ap₂}
+-- No name too often: of an area, by its slots, and of its table, by its records.
+use mathlib.Core.Path.{_≡_, sym, _∙_, ap, ap₂}
 use mathlib.Core.Bool.{Bool, true, false, cond, not, _&&_, _||_, true≢false, false≢true}
 use mathlib.Core.List.{List}
 use mathlib.Core.Option.{Option, none, some}
 use mathlib.Core.Logic.{⊎-elim}
-use Prim.Native.Nat.{ℕ, zero, suc, _≤_, _<_, zero-le, suc-le-suc}
+use Prim.Native.Nat.{ℕ, _≤_, _<_}
 use native.Mathlib.Omega.{arith}
 use lib.Dec.{eqb, ltb}
 use lib.ListN.{getD}
 use borrow.Author.Tests.{eqb-true, eq-eqb, ltb-true, not-true}
 use Rattle.octets.specs.Octets.{same}
-use Rattle.octets.specs.Search.{every, some as someBelow}
+use Rattle.octets.specs.Search.{every}
 use Rattle.octets.proofs.Tests.{byTest, is-false, both-ways, and-left, and-right, and-both, below-or}
-use Rattle.octets.proofs.Search.{every-true, every-at, every-neither, some-true}
+use Rattle.octets.proofs.Search.{every-true, every-at, every-neither, some-true, Hit, some-hit}
 use Rattle.octets.proofs.Equal.{same-true, same-eq, same-refl}
 use Rattle.pin_model.specs.Slots.{used, apart}
 use Rattle.pin_model.specs.Table.{KeyRecord, NameRecord, keyIs, nameIs, pinIs, recordsOfAName}
-use Rattle.pin_model.specs.Layout.{placeOf, keyAt, decodeName, keysIn, namesIn}
-use Rattle.pin_model.specs.Sound.{ofTwo, keySlot, nameSlot, isUsed, keyIn, keyNumber, keysDistinct, nameKeyed, namesKeyed, sameName, nameTwice, samePin, pinTwice, nameThrice, nameAgain, namesDistinct}
+use Rattle.pin_model.specs.Layout.{placeOf, keyAt, decodeName, keysIn, namesIn, ofTwo, keySlot, nameSlot, isUsed, keyIn, keyNumber}
+use Rattle.pin_model.specs.Sound.{keysDistinct, nameKeyed, namesKeyed, sameName, nameTwice, samePin, pinTwice, nameThrice, nameAgain, namesDistinct}
+use Rattle.pin_model.specs.Fits.{holds}
 use Rattle.pin_model.proofs.Lists.{count}
-use Rattle.pin_model.proofs.Places.{passes, alikeIn, apart-every}
+use Rattle.pin_model.proofs.Places.{alikeIn, apart-every}
 use Rattle.pin_model.proofs.Once.{apart-once, once-apart}
 use Rattle.pin_model.proofs.Three.{three-at, Three, found-three}
 use Rattle.pin_model.proofs.KeyPlaces.{place-once}
@@ -27,21 +28,6 @@ use Rattle.pin_model.proofs.KeyBytes.{decode-used-key}
 use Rattle.pin_model.proofs.NameBytes.{decode-used-name, decode-free-name}
 use Rattle.pin_model.proofs.Decoded.{same-name, keys-in-at, names-in-length, names-in-at, keys-distinct, names-apart}
 use Rattle.pin_model.proofs.SoundFacts.{nameOf, apart-pins, pins-apart, names-pins}
-
--- a number below n of which a test holds
-pub record Hit (p : ℕ → Bool) (n : ℕ) : Type 0 where
-  pub at : ℕ
-  pub below : at < n
-  pub holds : p at ≡ true
-
-pub some-hit : (p : ℕ → Bool) (n : ℕ) → someBelow p n ≡ true → Hit p n
-unfolding someBelow
-some-hit p zero e = absurd (false≢true e)
-some-hit p (suc n) e = go (p zero) refl e (some-hit (λ i. p (suc i)) n)
-  where
-    go : (b : Bool) → p zero ≡ b → (b || someBelow (λ i. p (suc i)) n) ≡ true → (someBelow (λ i. p (suc i)) n ≡ true → Hit (λ i. p (suc i)) n) → Hit p (suc n)
-    go true d e ih = record { at = zero; below = suc-le-suc zero-le; holds = d }
-    go false d e ih = let h : Hit (λ i. p (suc i)) n = ih e in record { at = suc (h .at); below = suc-le-suc (h .below); holds = h .holds }
 
 -- the key of each used name slot
 module _ (b : List ℕ) (noKeyTwice : keysDistinct b ≡ true) (keyedNames : namesKeyed b ≡ true) where
@@ -78,7 +64,7 @@ module _ (b : List ℕ) (noKeyTwice : keysDistinct b ≡ true) (keyedNames : nam
   unfolding namesKeyed
   name-pointed n l u = pointed (nameSlot b n) (every-at (λ n. nameKeyed b (nameSlot b n)) 128 n keyedNames l) u
 
-  pub pointed-passes : (s : List ℕ) → Pointed s → passes (keyIs (keyAt (getD keys (keyNumber s) none))) (getD keys (keyNumber s) none) ≡ true
+  pub pointed-passes : (s : List ℕ) → Pointed s → holds (keyIs (keyAt (getD keys (keyNumber s) none))) (getD keys (keyNumber s) none) ≡ true
   pointed-passes s p = rw (p .there) (same-refl (p .what .key))
 
   -- the number of its slot is the key's place
@@ -122,12 +108,12 @@ module _ (b : List ℕ) (noKeyTwice : keysDistinct b ≡ true) (keyedNames : nam
       same-pin n m l k ∙ ap₂ (alikeIn (λ r s. pinIs (r .name) (r .key) s)) (sym (names-in-at b keys m k)) (sym (names-in-at b keys n l)))
 
   -- two slots with one name
-  both-named : (n : List ℕ) (x y : Option NameRecord) → passes (nameIs n) x ≡ true → passes (nameIs n) y ≡ true → alikeIn (λ r s. nameIs (r .name) s) x y ≡ true
+  both-named : (n : List ℕ) (x y : Option NameRecord) → holds (nameIs n) x ≡ true → holds (nameIs n) y ≡ true → alikeIn (λ r s. nameIs (r .name) s) x y ≡ true
   both-named n none y d e = absurd (false≢true d)
   both-named n (some r) none d e = absurd (false≢true e)
   both-named n (some r) (some s) d e = same-eq (s .name) (r .name) (same-true (s .name) n e ∙ sym (same-true (r .name) n d))
 
-  one-named : (n : List ℕ) (x y : Option NameRecord) → passes (nameIs n) y ≡ true → alikeIn (λ r s. nameIs (r .name) s) x y ≡ true → passes (nameIs n) x ≡ true
+  one-named : (n : List ℕ) (x y : Option NameRecord) → holds (nameIs n) y ≡ true → alikeIn (λ r s. nameIs (r .name) s) x y ≡ true → holds (nameIs n) x ≡ true
   one-named n none y e d = absurd (false≢true d)
   one-named n (some r) none e d = absurd (false≢true e)
   one-named n (some r) (some s) e d = same-eq (r .name) n (sym (same-true (s .name) (r .name) d) ∙ same-true (s .name) n e)
@@ -161,7 +147,7 @@ module _ (b : List ℕ) (noKeyTwice : keysDistinct b ≡ true) (keyedNames : nam
   -- the name of a used slot
   record Named (x : Option NameRecord) : Type 0 where
     its : List ℕ
-    is-it : passes (nameIs its) x ≡ true
+    is-it : holds (nameIs its) x ≡ true
 
   named-in : (x y : Option NameRecord) → alikeIn (λ r s. nameIs (r .name) s) x y ≡ true → Named y
   named-in none y d = absurd (false≢true d)
@@ -184,9 +170,9 @@ module _ (b : List ℕ) (noKeyTwice : keysDistinct b ≡ true) (keyedNames : nam
       let lower : alikeIn (λ r s. nameIs (r .name) s) (getD names (first .at) none) (getD names (second .at) none) ≡ true =
       sym (names-alike (second .at) (first .at) middle lowest) ∙ first .holds in
       let it : Named (getD names n none) = named-in (getD names (second .at) none) (getD names n none) upper in
-      let atSecond : passes (nameIs (it .its)) (getD names (second .at) none) ≡ true =
+      let atSecond : holds (nameIs (it .its)) (getD names (second .at) none) ≡ true =
       one-named (it .its) (getD names (second .at) none) (getD names n none) (it .is-it) upper in
-      let atFirst : passes (nameIs (it .its)) (getD names (first .at) none) ≡ true =
+      let atFirst : holds (nameIs (it .its)) (getD names (first .at) none) ≡ true =
       one-named (it .its) (getD names (first .at) none) (getD names (second .at) none) atSecond lower in
       omega (
         arith,

@@ -1,4 +1,4 @@
--- A sound area is the area of its table, which is sound; so an area is sound exactly when it is the area of a sound table. Assumes nothing.
+-- A sound area is the area of its table, which is sound; so an area is sound exactly when it is the area of a sound table.
 use mathlib.Core.Path.{_≡_, refl, sym, _∙_, ap, ap₂}
 use mathlib.Core.Bool.{true}
 use mathlib.Core.List.{List, _∷_, _++_}
@@ -13,23 +13,24 @@ use borrow.Author.Tests.{eqb-true, eq-eqb, le-leb}
 use Rattle.octets.specs.Octets.{part, all, any}
 use Rattle.octets.specs.Search.{some as someBelow}
 use Rattle.octets.proofs.Tests.{byTest, and-left, and-right}
-use Rattle.octets.proofs.Search.{every-at}
+use Rattle.octets.proofs.Search.{every-at, Hit, some-hit}
 use Rattle.octets.proofs.Parts.{part-length}
 use Rattle.octets.proofs.Numbers.{Bytes}
 use Rattle.octets.proofs.Equal.{same-eq}
 use Rattle.pin_model.specs.Slots.{used, apart}
-use Rattle.pin_model.specs.Table.{clockLimit, KeyRecord, Table, keyIs, pinnedTo, soundName, soundTable}
-use Rattle.pin_model.specs.Layout.{joined, keyAt, encodeKey, decodeKey, encodeName, decodeName, editionByte, encode, keysIn, namesIn, decode}
-use Rattle.pin_model.specs.Sound.{latestIn, ofTwo, keySlot, nameSlot, isUsed, keyNumber, keyShaped, keysShaped, nameShaped, namesShaped, refersTo, keyNamed, keysNamed, sound}
+use Rattle.pin_model.specs.Table.{clockLimit, KeyRecord, Table, keyIs, pinnedTo}
+use Rattle.pin_model.specs.Layout.{joined, keyAt, encodeKey, decodeKey, encodeName, decodeName, editionByte, encode, keysIn, namesIn, decode, latestIn, ofTwo, keySlot, nameSlot, isUsed, keyNumber}
+use Rattle.pin_model.specs.Sound.{keyShaped, keysShaped, nameShaped, namesShaped, refersTo, keyNamed, keysNamed, sound}
+use Rattle.pin_model.specs.SoundTable.{soundName, soundTable}
+use Rattle.pin_model.specs.Fits.{keyFits, keysWhole, Fits}
 use Rattle.pin_model.proofs.Places.{any-at, all-from}
-use Rattle.pin_model.proofs.Fits.{keyFits, keysWhole, Fits}
 use Rattle.pin_model.proofs.Cut.{part-then, part-last, zero-part, part-bytes, number-part}
 use Rattle.pin_model.proofs.Joined.{joined-split}
 use Rattle.pin_model.proofs.KeyBytes.{decode-free-key, decode-key-fits, encode-decode-key}
 use Rattle.pin_model.proofs.NameBytes.{decode-used-name, decode-free-name}
 use Rattle.pin_model.proofs.NameRules.{encode-decode-name, decode-name-sound}
 use Rattle.pin_model.proofs.Decoded.{keys-in-length, keys-in-at, names-in-length, names-in-at, keys-distinct}
-use Rattle.pin_model.proofs.Repeats.{Hit, some-hit, keyRead, used-key-at, name-pointed, pointed-passes, number-placed, Few, distinct-few}
+use Rattle.pin_model.proofs.Repeats.{keyRead, used-key-at, name-pointed, pointed-passes, number-placed, Few, distinct-few}
 use Rattle.pin_model.proofs.SoundFacts.{names-few, pins-apart}
 use Rattle.pin_model.proofs.SoundTable.{sound-table-fits}
 use Rattle.pin_model.proofs.SoundEncode.{sound-encode}

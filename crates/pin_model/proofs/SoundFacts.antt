@@ -1,4 +1,4 @@
--- What a sound table is, as facts with names. Assumes nothing.
+-- What a sound table is, as facts with names.
 use mathlib.Core.Path.{_≡_, sym, _∙_, ap, ap₂, subst}
 use mathlib.Core.Bool.{Bool, true, false}
 use mathlib.Core.List.{List}
@@ -12,9 +12,11 @@ use Rattle.octets.specs.Octets.{all, any}
 use Rattle.octets.proofs.Tests.{byTest, both-ways, and-left, and-right, and-both}
 use Rattle.octets.proofs.Equal.{same-true, same-refl}
 use Rattle.pin_model.specs.Slots.{used, apart}
-use Rattle.pin_model.specs.Table.{clockLimit, KeyRecord, NameRecord, Table, keyIs, nameIs, pinnedTo, pinIs, keyRecorded, recordsOfAName, namesFew, soundName, soundTable}
+use Rattle.pin_model.specs.Table.{clockLimit, KeyRecord, NameRecord, Table, keyIs, nameIs, pinnedTo, pinIs, keyRecorded, recordsOfAName}
+use Rattle.pin_model.specs.SoundTable.{namesFew, soundName, soundTable}
+use Rattle.pin_model.specs.Fits.{holds}
 use Rattle.pin_model.proofs.Lists.{count, count-none, count-implied}
-use Rattle.pin_model.proofs.Places.{passes, any-at}
+use Rattle.pin_model.proofs.Places.{any-at}
 use Rattle.pin_model.proofs.Fields.{all-found, found-all}
 use Rattle.pin_model.proofs.Once.{apart-few, few-apart, apart-once, once-apart}
 
@@ -39,7 +41,7 @@ abbrev pub nameOf : NameRecord → List ℕ
 nameOf r = r .name
 
 -- no name more often than the edition allows; no name twice with one key
-pub few-names : (two : Bool) (l : List NameRecord) → namesFew two l ≡ true → (n : List ℕ) → count (nameIs n) l ≤ recordsOfAName two
+few-names : (two : Bool) (l : List NameRecord) → namesFew two l ≡ true → (n : List ℕ) → count (nameIs n) l ≤ recordsOfAName two
 few-names two l e n =
     byTest (any (nameIs n) l)
     (λ d. leb-true (count (nameIs n) l) (recordsOfAName two) (all-found nameOf (λ m. leb (count (nameIs m) l) (recordsOfAName two)) l e n d))
@@ -111,9 +113,9 @@ module _ {t : Table} (facts : SoundFacts t) where
   pub name-keyed : (n : ℕ) (r : NameRecord) → getD (t .names) n none ≡ some r → keyRecorded (r .key) t ≡ true
   name-keyed n r e =
       facts .recordedWhilePinned (r .key)
-      ∙ any-at (pinnedTo (r .key)) (t .names) n (ap (passes (pinnedTo (r .key))) e ∙ same-refl (r .key))
+      ∙ any-at (pinnedTo (r .key)) (t .names) n (ap (holds (pinnedTo (r .key))) e ∙ same-refl (r .key))
 
   pub key-named : (k : ℕ) (x : KeyRecord) → getD (t .keys) k none ≡ some x → any (pinnedTo (x .key)) (used (t .names)) ≡ true
   key-named k x e =
       sym (facts .recordedWhilePinned (x .key))
-      ∙ any-at (keyIs (x .key)) (t .keys) k (ap (passes (keyIs (x .key))) e ∙ same-refl (x .key))
+      ∙ any-at (keyIs (x .key)) (t .keys) k (ap (holds (keyIs (x .key))) e ∙ same-refl (x .key))

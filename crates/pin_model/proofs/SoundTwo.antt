@@ -1,6 +1,6 @@
--- The steps of edition two keep a table sound. Assumes nothing.
+-- The steps of edition two keep a table sound.
 use mathlib.Core.Path.{_≡_, refl, _∙_, ap}
-use mathlib.Core.Bool.{Bool, true, not, cond, _&&_, _||_}
+use mathlib.Core.Bool.{Bool, true, not, cond, _&&_}
 use mathlib.Core.List.{List, [], _∷_}
 use Prim.Native.Nat.{ℕ, _≤_, _<_}
 use native.Mathlib.Omega.{arith}
@@ -8,15 +8,16 @@ use lib.Dec.{ltb}
 use borrow.Author.Tests.{ltb-true, not-true}
 use Rattle.octets.proofs.Tests.{byTest, and-left, and-right}
 use Rattle.host_name.specs.Name.{wellFormed}
-use Rattle.tack_extension.specs.Tack.{publicKey}
 use Rattle.pin_model.specs.Slots.{count, used, hasFree, placed}
-use Rattle.pin_model.specs.Table.{clockLimit, NameRecord, Table, holding, nameIs, pinIs, keyRecorded, withoutAll, soundTable}
-use Rattle.pin_model.specs.Judge.{raise, madeFor}
-use Rattle.pin_model.specs.JudgeTwo.{ConnectionTwo, Shown, tacksShown, raiseEach, raisedAt, raisedTwo, contradicted, isRemoved, hasOwn, wantsOwn, roomOf, extendOwn, makeOwn, learnOwn, learnEach, learnedIn, judgedTwo}
+use Rattle.pin_model.specs.Table.{clockLimit, NameRecord, Table, holding, nameIs, withoutAll}
+use Rattle.pin_model.specs.SoundTable.{soundTable}
+use Rattle.pin_model.specs.Connection.{ConnectionTwo, Shown, tacksShown}
+use Rattle.pin_model.specs.Judge.{raise, extend, newName}
+use Rattle.pin_model.specs.JudgeTwo.{raiseEach, raisedAt, raisedTwo, contradicted, isRemoved, hasOwn, wantsOwn, keyRoom, roomOf, makeOwn, learnOwn, learnEach, learnTwo, judgedTwo}
 use Rattle.pin_model.proofs.Lists.{cond-either}
 use Rattle.pin_model.proofs.Slots.{alike-placed, length-placed}
 use Rattle.pin_model.proofs.SoundFacts.{SoundFacts, sound-facts, facts-sound}
-use Rattle.pin_model.proofs.SoundSteps.{raise-keeps, extended-keeps, settled-keeps}
+use Rattle.pin_model.proofs.SoundSteps.{raise-keeps, extend-keeps, settled-keeps}
 use Rattle.pin_model.proofs.SoundRemoval.{removed-keeps}
 use Rattle.pin_model.proofs.Added.{added-keeps}
 
@@ -24,9 +25,6 @@ use Rattle.pin_model.proofs.Added.{added-keeps}
 pub raised-form : (tacks : List Shown) (t : Table) → raiseEach tacks t ≡ holding t (raiseEach tacks t .keys) (t .names)
 raised-form [] t = refl
 raised-form (s ∷ tacks) t = raised-form tacks (raise (s .tack) t)
-
-pub raised-names : (tacks : List Shown) (t : Table) → raiseEach tacks t .names ≡ t .names
-raised-names tacks t = ap (λ (u : Table). u .names) (raised-form tacks t)
 
 raised-keeps : (tacks : List Shown) {t : Table} → SoundFacts t → SoundFacts (raiseEach tacks t)
 raised-keeps [] facts = facts
@@ -40,10 +38,10 @@ pub record Stage (clock : ℕ) (t : Table) : Type 0 where
 
 module _ (name : List ℕ) (clock : ℕ) (formed : wellFormed name ≡ true) where
   module _ (tack : List ℕ) {t : Table} (stage : Stage clock t) where
-    extended-stage : Stage clock (extendOwn name clock tack t)
+    extended-stage : Stage clock (extend true name clock tack t)
     extended-stage =
         record {
-          facts = extended-keeps clock (pinIs name (publicKey tack)) (stage .settled) (stage .facts);
+          facts = extend-keeps true name clock tack (stage .settled) (stage .facts);
           settled = stage .settled;
           two = stage .two;
         }
@@ -58,10 +56,10 @@ module _ (name : List ℕ) (clock : ℕ) (formed : wellFormed name ≡ true) whe
         ltb-true (count (nameIs name) (used (t .names))) 2 (and-right (not (hasOwn name tack t)) (ltb (count (nameIs name) (used (t .names))) 2) wants) in
         rw e (record {
           facts =
-              added-keeps name clock tack (stage .facts) (placed (madeFor name clock tack) (t .names))
-              (alike-placed (madeFor name clock tack) (t .names) (and-left (hasFree (t .names)) (keyRecorded (publicKey tack) t || hasFree (t .keys)) room))
-              (length-placed (madeFor name clock tack) (t .names) ∙ stage .facts .nameSlots)
-              (and-right (hasFree (t .names)) (keyRecorded (publicKey tack) t || hasFree (t .keys)) room)
+              added-keeps name clock tack (stage .facts) (placed (newName name clock tack) (t .names))
+              (alike-placed (newName name clock tack) (t .names) (and-left (hasFree (t .names)) (keyRoom tack t) room))
+              (length-placed (newName name clock tack) (t .names) ∙ stage .facts .nameSlots)
+              (and-right (hasFree (t .names)) (keyRoom tack t) room)
               (rw (stage .two) few)
               (not-true (hasOwn name tack t) (and-left (not (hasOwn name tack t)) (ltb (count (nameIs name) (used (t .names))) 2) wants))
               formed (omega (arith, stage .settled));
@@ -72,8 +70,8 @@ module _ (name : List ℕ) (clock : ℕ) (formed : wellFormed name ≡ true) whe
 
   pub own-stage : (s : Shown) {t : Table} → Stage clock t → Stage clock (learnOwn name clock s t)
   own-stage s {t} stage =
-      cond-either (Stage clock) (s .enabled) (cond (hasOwn name (s .tack) t) (extendOwn name clock (s .tack) t) (makeOwn name clock (s .tack) t)) t
-      (cond-either (Stage clock) (hasOwn name (s .tack) t) (extendOwn name clock (s .tack) t) (makeOwn name clock (s .tack) t)
+      cond-either (Stage clock) (s .enabled) (cond (hasOwn name (s .tack) t) (extend true name clock (s .tack) t) (makeOwn name clock (s .tack) t)) t
+      (cond-either (Stage clock) (hasOwn name (s .tack) t) (extend true name clock (s .tack) t) (makeOwn name clock (s .tack) t)
       (extended-stage (s .tack) stage) (made-stage (s .tack) stage))
       stage
 
@@ -94,7 +92,7 @@ module _ (name : List ℕ) (clock : ℕ) (tacks : List Shown) {t : Table} (facts
         two = ap (λ (u : Table). u .two) form ∙ two;
       }
 
-  pub learned-stage : wellFormed name ≡ true → Stage clock (learnedIn name clock tacks (raisedAt clock tacks t))
+  learned-stage : wellFormed name ≡ true → Stage clock (learnTwo name clock tacks (raisedAt clock tacks t))
   learned-stage formed =
       cond-either (Stage clock) (contradicted name clock tacks (raisedAt clock tacks t)) (raisedAt clock tacks t)
       (learnEach name clock tacks (withoutAll (isRemoved name clock tacks) (raisedAt clock tacks t)))
@@ -105,5 +103,5 @@ pub judgedTwo-keeps : (c : ConnectionTwo) (t : Table) → soundTable t ≡ true 
     → c .clock ≤ clockLimit → soundTable (judgedTwo c t) ≡ true
 unfolding judgedTwo
 judgedTwo-keeps c t sound two formed inOrder inLimit =
-    facts-sound (learnedIn (c .name) (c .clock) (tacksShown c) (raisedTwo c t))
+    facts-sound (learnTwo (c .name) (c .clock) (tacksShown c) (raisedTwo c t))
     (learned-stage (c .name) (c .clock) (tacksShown c) (sound-facts t sound) two inOrder inLimit formed .facts)

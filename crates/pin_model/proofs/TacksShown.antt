@@ -1,4 +1,4 @@
--- Each tack that a call of edition two shows is 166 bytes long, so its key is 64 and its target hash 32. Assumes nothing.
+-- Each tack that a call of edition two shows is 166 bytes long, so its key is 64 and its target hash 32.
 use mathlib.Core.Path.{_≡_, refl, ap}
 use mathlib.Core.Bool.{Bool, true, not}
 use mathlib.Core.List.{List, [], _∷_, _++_}
@@ -13,7 +13,7 @@ use Rattle.tack_extension.specs.Extension.{tackLength}
 use Rattle.tack_extension_two.specs.ExtensionTwo.{PartsTwo, enablesFirst, enablesSecond, goodTwo, parseTwo, partsOrNone}
 use Rattle.tack_extension.specs.Tack.{publicKey, targetHash}
 use Rattle.tack_extension_two.proofs.RoundTripTwo.{reads-good-two}
-use Rattle.pin_model.specs.JudgeTwo.{ConnectionTwo, Shown, partsTwoOf, shownIn, tacksIn, tacksShown}
+use Rattle.pin_model.specs.Connection.{ConnectionTwo, Shown, partsTwoOf, shownIn, tacksIn, tacksShown}
 use Rattle.pin_model.proofs.TackShown.{whole-tack, key-size, hash-differs}
 
 -- parts of which neither, one or both are tacks

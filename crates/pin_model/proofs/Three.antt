@@ -1,4 +1,4 @@
--- Three slots that pass a test: where they stand, and that they are three. Assumes nothing.
+-- Three slots that pass a test: where they stand, and that they are three.
 use mathlib.Core.Path.{_≡_, refl, _∙_, ap}
 use mathlib.Core.Bool.{Bool, true, false}
 use mathlib.Core.List.{List, [], _∷_}
@@ -7,21 +7,23 @@ use Prim.Native.Nat.{ℕ, zero, suc, _≤_, _<_, zero-le, suc-le-suc}
 use native.Mathlib.Nat.{le-of-suc-le-suc, not-suc-le-zero}
 use native.Mathlib.Omega.{arith}
 use lib.ListN.{length, getD}
+use Rattle.octets.proofs.Options.{clash}
 use Rattle.pin_model.specs.Slots.{used}
+use Rattle.pin_model.specs.Fits.{holds}
 use Rattle.pin_model.proofs.Lists.{bit, count, some-count}
-use Rattle.pin_model.proofs.Places.{passes, count-slot, count-at, Found, any-found}
+use Rattle.pin_model.proofs.Places.{count-slot, count-at, Found, any-found}
 
 module _ {A : Type 0} (p : A → Bool) where
   -- they are counted
-  two-at : (l : List (Option A)) (i j : ℕ) → i < j → passes p (getD l i none) ≡ true → passes p (getD l j none) ≡ true → 2 ≤ count p (used l)
-  two-at [] i j h d e = absurd (omega (arith, let z : _≡_ {A = ℕ} 0 1 = cc in z))
+  two-at : (l : List (Option A)) (i j : ℕ) → i < j → holds p (getD l i none) ≡ true → holds p (getD l j none) ≡ true → 2 ≤ count p (used l)
+  two-at [] i j h d e = clash (cc)
   two-at (x ∷ xs) i zero h d e = absurd (not-suc-le-zero h)
   two-at (x ∷ xs) zero (suc j) h d e = omega (arith, count-slot p x xs, ap bit d, count-at p xs j e)
   two-at (x ∷ xs) (suc i) (suc j) h d e = omega (arith, count-slot p x xs, two-at xs i j (le-of-suc-le-suc h) d e)
 
-  pub three-at : (l : List (Option A)) (i j k : ℕ) → i < j → j < k → passes p (getD l i none) ≡ true → passes p (getD l j none) ≡ true
-      → passes p (getD l k none) ≡ true → 3 ≤ count p (used l)
-  three-at [] i j k h g c d e = absurd (omega (arith, let z : _≡_ {A = ℕ} 0 1 = cc in z))
+  pub three-at : (l : List (Option A)) (i j k : ℕ) → i < j → j < k → holds p (getD l i none) ≡ true → holds p (getD l j none) ≡ true
+      → holds p (getD l k none) ≡ true → 3 ≤ count p (used l)
+  three-at [] i j k h g c d e = clash (cc)
   three-at (x ∷ xs) i zero k h g c d e = absurd (not-suc-le-zero h)
   three-at (x ∷ xs) i (suc j) zero h g c d e = absurd (not-suc-le-zero g)
   three-at (x ∷ xs) zero (suc j) (suc k) h g c d e =
@@ -35,8 +37,8 @@ module _ {A : Type 0} (p : A → Bool) where
     j : ℕ
     order : i < j
     below : j < length l
-    atI : passes p (getD l i none) ≡ true
-    atJ : passes p (getD l j none) ≡ true
+    atI : holds p (getD l i none) ≡ true
+    atJ : holds p (getD l j none) ≡ true
 
   pub record Three (l : List (Option A)) : Type 0 where
     pub i : ℕ
@@ -45,15 +47,15 @@ module _ {A : Type 0} (p : A → Bool) where
     pub order : i < j
     pub orderToo : j < k
     pub below : k < length l
-    pub atI : passes p (getD l i none) ≡ true
-    pub atJ : passes p (getD l j none) ≡ true
-    pub atK : passes p (getD l k none) ≡ true
+    pub atI : holds p (getD l i none) ≡ true
+    pub atJ : holds p (getD l j none) ≡ true
+    pub atK : holds p (getD l k none) ≡ true
 
   found-two : (l : List (Option A)) → 2 ≤ count p (used l) → Two l
   found-two [] h = absurd (omega arith)
-  found-two (x ∷ xs) h = go (passes p x) refl (found-two xs)
+  found-two (x ∷ xs) h = go (holds p x) refl (found-two xs)
     where
-      go : (b : Bool) → passes p x ≡ b → (2 ≤ count p (used xs) → Two xs) → Two (x ∷ xs)
+      go : (b : Bool) → holds p x ≡ b → (2 ≤ count p (used xs) → Two xs) → Two (x ∷ xs)
       go true e ih =
           let f : Found p xs = any-found p xs (some-count p (used xs) (omega (arith, count-slot p x xs, ap bit e))) in
           record {
@@ -62,7 +64,7 @@ module _ {A : Type 0} (p : A → Bool) where
             order = suc-le-suc zero-le;
             below = suc-le-suc (f .below);
             atI = e;
-            atJ = ap (passes p) (f .there) ∙ f .passes-it;
+            atJ = ap (holds p) (f .there) ∙ f .passes-it;
           }
       go false e ih =
           let f : Two xs = ih (omega (arith, count-slot p x xs, ap bit e)) in
@@ -70,9 +72,9 @@ module _ {A : Type 0} (p : A → Bool) where
 
   pub found-three : (l : List (Option A)) → 3 ≤ count p (used l) → Three l
   found-three [] h = absurd (omega arith)
-  found-three (x ∷ xs) h = go (passes p x) refl (found-three xs)
+  found-three (x ∷ xs) h = go (holds p x) refl (found-three xs)
     where
-      go : (b : Bool) → passes p x ≡ b → (3 ≤ count p (used xs) → Three xs) → Three (x ∷ xs)
+      go : (b : Bool) → holds p x ≡ b → (3 ≤ count p (used xs) → Three xs) → Three (x ∷ xs)
       go true e ih =
           let f : Two xs = found-two xs (omega (arith, count-slot p x xs, ap bit e)) in
           record {

@@ -1,4 +1,4 @@
--- An area whose slots are cleared: one name, one key, and every key that no name is left on. Assumes nothing.
+-- An area whose slots are cleared: one name, one key, and every key that no name is left on.
 use mathlib.Core.Path.{_≡_, refl, sym, _∙_, ap, subst}
 use mathlib.Core.Bool.{Bool, true, false, not, true≢false}
 use mathlib.Core.List.{List}
@@ -10,16 +10,16 @@ use Rattle.octets.specs.Octets.{any, put}
 use Rattle.pin_model.specs.Slots.{used}
 use Rattle.pin_model.specs.Table.{KeyRecord, NameRecord, Table, holding, pinnedTo}
 use Rattle.pin_model.specs.Layout.{keyAt, encodeKey, encodeName, encode, decode}
+use Rattle.pin_model.specs.Fits.{holds, Fits}
 use Rattle.pin_model.proofs.Places.{any-at, any-none}
-use Rattle.pin_model.proofs.Fits.{Fits}
 use Rattle.pin_model.proofs.Encoded.{encode-length}
 use Rattle.pin_model.proofs.Kept.{KeyWritten, NameWritten, name-written, freed-key-written}
 use Rattle.pin_records.specs.Holds.{Distinct, Holds, withKey, withName, withoutUnnamed}
-use Rattle.pin_records.specs.Find.{holds, isFree}
+use Rattle.pin_records.specs.Find.{isFree}
 use Rattle.pin_records.proofs.DistinctNames.{distinct-cleared}
 use Rattle.pin_records.proofs.Placed.{Used, is-used}
 use Rattle.pin_records.proofs.HeldSlots.{holds-decode}
-use Rattle.pin_records.proofs.Swept.{swept, swept-at, swept-goes, swept-stays, swept-all}
+use Rattle.pin_records.proofs.FreedSlots.{freedTo, freed-to-at, freed-to-goes, freed-to-stays, freed-to-all}
 
 holds-written : (d : List ℕ) (u : Table) → d ≡ encode u → Fits u → Distinct (u .two) (u .names) → Holds d u
 holds-written d u e f distinct = record { bytes = e; long = ap length e ∙ encode-length u f; fits = f; distinct = distinct }
@@ -48,14 +48,14 @@ unnamed names x = not (any (pinnedTo (x .key)) (used names))
 
 -- the loop over the keys: those below k are done
 abbrev pub stage : Table → ℕ → Table
-stage t k = holding t (swept (unnamed (t .names)) k (t .keys)) (t .names)
+stage t k = holding t (freedTo (unnamed (t .names)) k (t .keys)) (t .names)
 
 module _ (t : Table) {b : List ℕ} (k : ℕ) (h : Holds b (stage t k)) where
   back : decode b ≡ stage t k
   back = holds-decode h
 
   slot : getD (decode b .keys) k none ≡ getD (t .keys) k none
-  slot = ap (λ (u : Table). getD (u .keys) k none) back ∙ swept-at (unnamed (t .names)) k (t .keys)
+  slot = ap (λ (u : Table). getD (u .keys) k none) back ∙ freed-to-at (unnamed (t .names)) k (t .keys)
 
   -- whether a name is left on the key, as it was at the start
   left : any (pinnedTo (keyAt (getD (decode b .keys) k none))) (used (decode b .names)) ≡ any (pinnedTo (keyAt (getD (t .keys) k none))) (used (t .names))
@@ -64,7 +64,8 @@ module _ (t : Table) {b : List ℕ} (k : ℕ) (h : Holds b (stage t k)) where
       ∙ ap (λ (u : Table). any (pinnedTo (keyAt (getD (t .keys) k none))) (used (u .names))) back
 
   stays : holds (unnamed (t .names)) (getD (t .keys) k none) ≡ false → Holds b (stage t (k + 1))
-  stays e = subst (λ (l : List (Option KeyRecord)). Holds b (holding t l (t .names))) (swept-stays (unnamed (t .names)) k (t .keys) e) h
+  stays e =
+      subst (λ (l : List (Option KeyRecord)). Holds b (holding t l (t .names))) (freed-to-stays (unnamed (t .names)) k (t .keys) e) h
 
   pub stage-free : isFree (getD (decode b .keys) k none) ≡ true → Holds b (stage t (k + 1))
   stage-free e = stays (go (getD (t .keys) k none) (ap isFree (sym slot) ∙ e))
@@ -92,7 +93,7 @@ module _ (t : Table) {b : List ℕ} (k : ℕ) (h : Holds b (stage t k)) where
       → Holds d (withKey (decode b) k none) → Holds d (stage t (k + 1))
   stage-cleared {d} u f g =
       subst (λ (l : List (Option KeyRecord)). Holds d (holding t l (t .names)))
-      (swept-goes (unnamed (t .names)) k (t .keys) (go (getD (t .keys) k none) (ap isFree (sym slot) ∙ u) (sym left ∙ stage-unnamed f)))
+      (freed-to-goes (unnamed (t .names)) k (t .keys) (go (getD (t .keys) k none) (ap isFree (sym slot) ∙ u) (sym left ∙ stage-unnamed f)))
       (subst (λ (v : Table). Holds d (withKey v k none)) back g)
     where
       go : (x : Option KeyRecord) → isFree x ≡ false → any (pinnedTo (keyAt x)) (used (t .names)) ≡ false → holds (unnamed (t .names)) x ≡ true
@@ -101,4 +102,4 @@ module _ (t : Table) {b : List ℕ} (k : ℕ) (h : Holds b (stage t k)) where
 
 pub stage-end : (t : Table) {b : List ℕ} (k : ℕ) → Holds b (stage t k) → length (t .keys) ≡ 64 → 64 ≤ k → Holds b (withoutUnnamed t)
 stage-end t {b} k h slots l =
-    subst (λ (l : List (Option KeyRecord)). Holds b (holding t l (t .names))) (swept-all (unnamed (t .names)) k (t .keys) (omega arith)) h
+    subst (λ (l : List (Option KeyRecord)). Holds b (holding t l (t .names))) (freed-to-all (unnamed (t .names)) k (t .keys) (omega arith)) h

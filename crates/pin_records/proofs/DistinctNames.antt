@@ -1,4 +1,4 @@
--- No name has more records than its edition allows, and none has two with one key: slots that are set keep it. Assumes nothing.
+-- No name has more records than its edition allows, and none has two with one key: slots that are set keep it.
 use mathlib.Core.Path.{_≡_, sym, _∙_, ap, subst}
 use mathlib.Core.Bool.{Bool, true, false}
 use mathlib.Core.List.{List}
@@ -12,8 +12,9 @@ use Rattle.octets.proofs.Tests.{byTest, and-left, and-right}
 use Rattle.octets.proofs.Equal.{same-true}
 use Rattle.pin_model.specs.Slots.{bit, count, used}
 use Rattle.pin_model.specs.Table.{NameRecord, nameIs, pinnedTo, pinIs, recordsOfAName}
+use Rattle.pin_model.specs.Fits.{holds}
 use Rattle.pin_model.proofs.Lists.{any-count, none-implied}
-use Rattle.pin_model.proofs.Places.{passes, count-set}
+use Rattle.pin_model.proofs.Places.{count-set}
 use Rattle.pin_records.specs.Holds.{Distinct}
 use Rattle.pin_records.specs.Store.{Fresh}
 
@@ -48,14 +49,14 @@ module _ {two : Bool} {names : List (Option NameRecord)} (d : Distinct two names
     few = λ m. omega (
       arith,
       d .few m,
-      ap (λ (z : Option NameRecord). bit (passes (nameIs m) z)) e,
+      ap (λ (z : Option NameRecord). bit (holds (nameIs m) z)) e,
       ap (λ (x : List ℕ). bit (same x m)) name,
       count-set (nameIs m) names n (some s) l,
     );
     once = λ m k. omega (
       arith,
       d .once m k,
-      ap (λ (z : Option NameRecord). bit (passes (pinIs m k) z)) e,
+      ap (λ (z : Option NameRecord). bit (holds (pinIs m k) z)) e,
       alike m k,
       count-set (pinIs m k) names n (some s) l,
     );

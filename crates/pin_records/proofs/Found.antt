@@ -1,6 +1,6 @@
--- The answers of the searches: what a loop has to show, and what its caller knows. Assumes nothing.
-use mathlib.Core.Path.{_≡_, refl, sym, _∙_, ap}
-use mathlib.Core.Bool.{Bool, true, false, cond}
+-- The answers of the searches: what a loop has to show, and what its caller knows.
+use mathlib.Core.Path.{_≡_, sym, _∙_, ap}
+use mathlib.Core.Bool.{Bool, true, false, cond, _&&_}
 use mathlib.Core.List.{List}
 use mathlib.Core.Option.{Option, none, some}
 use Prim.Native.Nat.{ℕ, _≤_, _<_}
@@ -10,13 +10,16 @@ use lib.ListN.{length, getD, set}
 use borrow.Author.Tests.{lt-ltb, ltb-true, ltb-false}
 use Rattle.octets.specs.Octets.{same, any}
 use Rattle.octets.proofs.Equal.{same-true, same-eq}
+use Rattle.octets.proofs.Options.{clash}
+use Rattle.octets.proofs.Tests.{byTest}
 use Rattle.pin_model.specs.Slots.{used, hasFree, freed, changed, placed}
 use Rattle.pin_model.specs.Table.{KeyRecord, NameRecord, keyIs, nameIs}
+use Rattle.pin_model.specs.Fits.{holds}
 use Rattle.pin_model.proofs.Lists.{count}
-use Rattle.pin_model.proofs.Places.{any-at, any-none}
+use Rattle.pin_model.proofs.Places.{any-at, any-none, any-once}
 use Rattle.pin_table.specs.declared.slots.KeySlot.{KeySlot}
 use Rattle.pin_table.specs.declared.slots.NameSlot.{NameSlot}
-use Rattle.pin_records.specs.Find.{holds, isFree, firstSlot, keyFound, nameFound}
+use Rattle.pin_records.specs.Find.{isFree, firstSlot, keyFound, nameFound}
 use Rattle.pin_records.specs.declared.find.FoundKey.the-variants as key-found
 use Rattle.pin_records.specs.declared.find.FoundName.the-variants as name-found
 use Rattle.pin_records.proofs.Placed.{first-at, first-none, first-passes, first-absent, Used, is-used, holds-used, free-none, free-below, free-above, placed-set, freed-set, changed-set}
@@ -48,42 +51,33 @@ module _ (p : Option NameRecord → Bool) (names : List (Option NameRecord)) (sl
       let q : firstSlot p names ≡ length names = first-none p names (λ j l. no-slot j (omega arith)) in
       sym (rw (q, slots))
 
--- what a place below the number of slots says
+-- what the answer of a search says of the place that it found
+in-slots : {F : Type 0} {at nothing found : F} (j n : ℕ) → found ≡ cond (ltb j n) at nothing → (found ≡ nothing → ⊥)
+    → (j < n) × (found ≡ at)
+in-slots j n e somewhere = byTest (ltb j n) (λ d. (ltb-true j n d, simp d at e)) (λ d. absurd (somewhere (simp d at e)))
+
+behind-slots : {F : Type 0} {at found : F} (nothing : F) (j n : ℕ) → found ≡ cond (ltb j n) at nothing → (found ≡ at → ⊥) → n ≤ j
+behind-slots nothing j n e nowhere = byTest (ltb j n) (λ d. absurd (nowhere (simp d at e))) (λ d. ltb-false j n d)
+
 key-there : (j : ℕ) (k : KeySlot) → key-found.At k ≡ keyFound j → (j < 64) × (j ≡ k .0)
 unfolding keyFound
-key-there j k e = go (ltb j 64) refl e
-  where
-    go : (t : Bool) → ltb j 64 ≡ t → key-found.At k ≡ cond t (key-found.At (record { 0 = j })) key-found.Nothing → (j < 64) × (j ≡ k .0)
-    go true d f =
-        let q : _≡_ {A = KeySlot} (record { 0 = j }) k = cc in
-        (ltb-true j 64 d, ap (λ (x : KeySlot). x .0) q)
-    go false d f = let z : _≡_ {A = ℕ} 0 1 = cc in absurd (omega arith)
+key-there j k e =
+    let t : (j < 64) × (key-found.At k ≡ key-found.At (record { 0 = j })) = in-slots j 64 e (λ h. clash (cc)) in
+    (t .0, let same-place : k ≡ record { 0 = j } = let q = t .1 in cc in sym (ap (λ (x : KeySlot). x .0) same-place))
 
 key-not-there : (j : ℕ) → key-found.Nothing ≡ keyFound j → 64 ≤ j
 unfolding keyFound
-key-not-there j e = go (ltb j 64) refl e
-  where
-    go : (t : Bool) → ltb j 64 ≡ t → key-found.Nothing ≡ cond t (key-found.At (record { 0 = j })) key-found.Nothing → 64 ≤ j
-    go true d f = let z : _≡_ {A = ℕ} 0 1 = cc in absurd (omega arith)
-    go false d f = ltb-false j 64 d
+key-not-there j e = behind-slots key-found.Nothing j 64 e (λ h. clash (cc))
 
 pub name-there : (j : ℕ) (n : NameSlot) → name-found.At n ≡ nameFound j → (j < 128) × (j ≡ n .0)
 unfolding nameFound
-name-there j n e = go (ltb j 128) refl e
-  where
-    go : (t : Bool) → ltb j 128 ≡ t → name-found.At n ≡ cond t (name-found.At (record { 0 = j })) name-found.Nothing → (j < 128) × (j ≡ n .0)
-    go true d f =
-        let q : _≡_ {A = NameSlot} (record { 0 = j }) n = cc in
-        (ltb-true j 128 d, ap (λ (x : NameSlot). x .0) q)
-    go false d f = let z : _≡_ {A = ℕ} 0 1 = cc in absurd (omega arith)
+name-there j n e =
+    let t : (j < 128) × (name-found.At n ≡ name-found.At (record { 0 = j })) = in-slots j 128 e (λ h. clash (cc)) in
+    (t .0, let same-place : n ≡ record { 0 = j } = let q = t .1 in cc in sym (ap (λ (x : NameSlot). x .0) same-place))
 
 pub name-not-there : (j : ℕ) → name-found.Nothing ≡ nameFound j → 128 ≤ j
 unfolding nameFound
-name-not-there j e = go (ltb j 128) refl e
-  where
-    go : (t : Bool) → ltb j 128 ≡ t → name-found.Nothing ≡ cond t (name-found.At (record { 0 = j })) name-found.Nothing → 128 ≤ j
-    go true d f = let z : _≡_ {A = ℕ} 0 1 = cc in absurd (omega arith)
-    go false d f = ltb-false j 128 d
+name-not-there j e = behind-slots name-found.Nothing j 128 e (λ h. clash (cc))
 
 -- slot i of n is used, by an element whose field has the value
 pub record FoundAt {A : Type 0} (field : A → List ℕ) (value : List ℕ) (l : List (Option A)) (n i : ℕ) : Type 0 where
@@ -176,3 +170,9 @@ module _ {A : Type 0} {field : A → List ℕ} {value : List ℕ} {l : List (Opt
 
   pub found-changed : (f : A → A) → changed (λ a. same (field a) value) f l ≡ set l i (some (f (x .what)))
   found-changed f = changed-set (λ a. same (field a) value) f l i (x .what) (x .there) has-it once
+
+  -- a further test of those that have the value is that of the element found
+  pub found-any : (p : A → Bool) → any (λ a. same (field a) value && p a) (used l) ≡ p (x .what)
+  found-any p =
+      any-once (λ a. same (field a) value) p l i (ap (holds (λ a. same (field a) value)) (x .there) ∙ has-it) once
+      ∙ ap (holds p) (x .there)

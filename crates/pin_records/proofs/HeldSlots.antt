@@ -1,4 +1,4 @@
--- An area that holds a table: it is read back, and each field of a slot says what the table's slot does. Assumes nothing.
+-- An area that holds a table: it is read back, and each field of a slot says what the table's slot does.
 use mathlib.Core.Path.{_≡_, refl, sym, _∙_, ap, subst}
 use mathlib.Core.Bool.{true, false}
 use mathlib.Core.List.{List}
@@ -7,19 +7,20 @@ use Prim.Native.Nat.{ℕ, _≤_, _<_}
 use native.Mathlib.Omega.{arith}
 use lib.ListN.{length, getD}
 use Rattle.octets.specs.Octets.{part, number, numberAfter}
-use Rattle.pin_model.specs.Table.{KeyRecord, NameRecord, Table, keyIs, pinnedTo}
-use Rattle.pin_model.specs.Layout.{keyAt, present, orZero, encodeKey, encodeName, decode}
-use Rattle.pin_model.specs.Sound.{keySlot, nameSlot, keyNumber, endPresent, initialIn, endIn, refersTo}
 use Rattle.pin_model.specs.Slots.{used}
+use Rattle.pin_model.specs.Table.{KeyRecord, NameRecord, Table, keyIs, pinnedTo}
+use Rattle.pin_model.specs.Layout.{keyAt, present, orZero, encodeKey, encodeName, decode, keySlot, nameSlot, keyNumber, endPresent, initialIn, endIn}
+use Rattle.pin_model.specs.Sound.{refersTo}
+use Rattle.pin_model.specs.Fits.{holds, nameFits}
 use Rattle.pin_model.proofs.Lists.{count}
 use Rattle.pin_model.proofs.Places.{freeOr}
 use Rattle.pin_model.proofs.KeyPlaces.{place-found, number-pinned}
-use Rattle.pin_model.proofs.Fits.{nameFits, name-fits, name-fits-at}
+use Rattle.pin_model.proofs.Fits.{name-fits, name-fits-at}
 use Rattle.pin_model.proofs.NameBytes.{initial-field, end-field}
 use Rattle.pin_model.proofs.Encoded.{encode-key-slot, encode-name-slot, decode-encode}
 use Rattle.pin_table.specs.declared.minutes.Minutes.{Minutes}
 use Rattle.pin_records.specs.Holds.{Holds, Stored}
-use Rattle.pin_records.specs.Find.{holds, isFree, floorAt, initialAt, endAt}
+use Rattle.pin_records.specs.Find.{isFree, floorAt, initialAt, endAt}
 use Rattle.pin_records.specs.Read.{endFound, pinnedKey}
 use Rattle.pin_records.specs.declared.read.PinEnd.the-variants as pin-end
 use Rattle.pin_records.proofs.Placed.{Used, is-used}

@@ -4,7 +4,7 @@ pub mod Found
 pub mod SecondSlots
 pub mod HeldSlots
 pub mod PinnedKeys
-pub mod Swept
+pub mod FreedSlots
 pub mod DroppedNames
 pub mod Cleared
 pub mod DistinctNames

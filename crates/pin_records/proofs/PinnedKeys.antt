@@ -1,4 +1,4 @@
--- The key of a name's record, by the key slot whose number stands in the name's. Assumes nothing.
+-- The key of a name's record, by the key slot whose number stands in the name's.
 use mathlib.Core.Path.{_≡_, sym, _∙_, ap}
 use mathlib.Core.Bool.{false}
 use mathlib.Core.List.{List}
@@ -7,11 +7,12 @@ use Prim.Native.Nat.{ℕ}
 use lib.ListN.{getD}
 use Rattle.octets.specs.Octets.{same}
 use Rattle.pin_model.specs.Table.{NameRecord, Table, keyIs, pinnedTo}
+use Rattle.pin_model.specs.Fits.{holds, nameFits}
 use Rattle.pin_model.proofs.Places.{all-used-at}
 use Rattle.pin_model.proofs.KeyPlaces.{PlaceFound, place-found}
-use Rattle.pin_model.proofs.Fits.{nameFits, name-fits}
+use Rattle.pin_model.proofs.Fits.{name-fits}
 use Rattle.pin_records.specs.Holds.{Holds}
-use Rattle.pin_records.specs.Find.{holds, isFree}
+use Rattle.pin_records.specs.Find.{isFree}
 use Rattle.pin_records.specs.Read.{pinnedKey}
 use Rattle.pin_records.proofs.Placed.{Used, is-used}
 

@@ -1,4 +1,4 @@
--- The first slot that passes a test, and operations on slots that change one slot alone. Assumes nothing.
+-- The first slot that passes a test, and operations on slots that change one slot alone.
 use mathlib.Core.Path.{_≡_, refl, _∙_, ap, ap₂}
 use mathlib.Core.Bool.{Bool, true, false, cond, _&&_, _||_, true≢false, false≢true}
 use mathlib.Core.List.{List, [], _∷_}
@@ -9,11 +9,13 @@ use native.Mathlib.Omega.{arith}
 use lib.ListN.{length, getD, set}
 use Rattle.octets.specs.Octets.{any}
 use Rattle.octets.proofs.Tests.{is-false}
+use Rattle.octets.proofs.Options.{some-injective, never-some}
 use Rattle.pin_model.specs.Slots.{used, hasFree, freed, changed, placed}
+use Rattle.pin_model.specs.Fits.{holds}
 use Rattle.pin_model.proofs.Lists.{bit, count, count-some}
-use Rattle.pin_model.proofs.Places.{passes, some-injective, none-not-some, count-at}
+use Rattle.pin_model.proofs.Places.{count-at}
 use Rattle.pin_model.proofs.Slots.{freed-none}
-use Rattle.pin_records.specs.Find.{holds, isFree, firstSlot}
+use Rattle.pin_records.specs.Find.{isFree, firstSlot}
 
 -- the first slot that passes
 module _ {A : Type 0} (p : Option A → Bool) where
@@ -140,8 +142,8 @@ module _ {A : Type 0} (p : A → Bool) where
 
   pub changed-set : (f : A → A) (l : List (Option A)) (j : ℕ) (a : A) → getD l j none ≡ some a → p a ≡ true → count p (used l) ≤ 1
       → changed p f l ≡ set l j (some (f a))
-  changed-set f [] j a e d c = absurd (none-not-some e)
-  changed-set f (none ∷ xs) zero a e d c = absurd (none-not-some e)
+  changed-set f [] j a e d c = never-some e
+  changed-set f (none ∷ xs) zero a e d c = never-some e
   changed-set f (none ∷ xs) (suc j) a e d c = ap (λ (l : List (Option A)). none ∷ l) (changed-set f xs j a e d c)
   changed-set f (some x ∷ xs) zero a e d c =
       let x-a : x ≡ a = some-injective e in
@@ -150,5 +152,5 @@ module _ {A : Type 0} (p : A → Bool) where
   changed-set f (some x ∷ xs) (suc j) a e d c = go (p x) refl (changed-set f xs j a e d)
     where
       go : (b : Bool) → p x ≡ b → (count p (used xs) ≤ 1 → changed p f xs ≡ set xs j (some (f a))) → some (cond b (f x) x) ∷ changed p f xs ≡ some x ∷ set xs j (some (f a))
-      go true h ih = absurd (omega (arith, c, ap bit h, count-at p xs j (ap (passes p) e ∙ d)))
+      go true h ih = absurd (omega (arith, c, ap bit h, count-at p xs j (ap (holds p) e ∙ d)))
       go false h ih = ap (λ (l : List (Option A)). some x ∷ l) (ih (omega (arith, c, ap bit h)))

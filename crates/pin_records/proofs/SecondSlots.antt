@@ -1,4 +1,4 @@
--- The second slot that passes a test, and how many pass. Assumes nothing.
+-- The second slot that passes a test, and how many pass.
 use mathlib.Core.Path.{_≡_, refl, sym, _∙_, ap}
 use mathlib.Core.Bool.{Bool, true, false, cond}
 use mathlib.Core.List.{List, [], _∷_}
@@ -10,10 +10,11 @@ use lib.ListN.{length, getD}
 use borrow.Author.Tests.{lt-ltb}
 use Rattle.pin_model.specs.Slots.{bit, count, used}
 use Rattle.pin_model.specs.Table.{NameRecord}
+use Rattle.pin_model.specs.Fits.{holds}
 use Rattle.pin_model.proofs.Lists.{count-none}
 use Rattle.pin_model.proofs.Places.{any-none, count-at}
 use Rattle.pin_table.specs.declared.slots.NameSlot.{NameSlot}
-use Rattle.pin_records.specs.Find.{holds, firstSlot, secondSlot, nameFound}
+use Rattle.pin_records.specs.Find.{firstSlot, secondSlot, nameFound}
 use Rattle.pin_records.specs.declared.find.FoundName.the-variants as name-found
 use Rattle.pin_records.proofs.Placed.{first-at, first-none, first-before, first-passes, first-absent}
 use Rattle.pin_records.proofs.Found.{name-there, name-not-there}

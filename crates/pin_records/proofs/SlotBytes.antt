@@ -1,4 +1,4 @@
--- What the bytes of a slot say of the record that is read from it. Assumes nothing.
+-- What the bytes of a slot say of the record that is read from it.
 use mathlib.Core.Path.{_≡_, sym, _∙_, ap}
 use mathlib.Core.Bool.{Bool, true, false, cond, not}
 use mathlib.Core.List.{List}
@@ -11,11 +11,11 @@ use Rattle.octets.proofs.Tests.{byTest, is-false}
 use Rattle.octets.proofs.Parts.{part-length}
 use Rattle.octets.proofs.Equal.{same-true}
 use Rattle.pin_model.specs.Table.{KeyRecord, NameRecord, keyIs, nameIs}
-use Rattle.pin_model.specs.Layout.{decodeKey, decodeName, keysIn, namesIn}
-use Rattle.pin_model.specs.Sound.{keySlot, nameSlot, isUsed, keyIn, nameLength, nameIn}
+use Rattle.pin_model.specs.Layout.{decodeKey, decodeName, keysIn, namesIn, keySlot, nameSlot, isUsed, keyIn, nameLength, nameIn}
+use Rattle.pin_model.specs.Fits.{holds}
 use Rattle.pin_model.proofs.NameBytes.{nameRead}
 use Rattle.pin_model.proofs.Decoded.{keys-in-at, names-in-at}
-use Rattle.pin_records.specs.Find.{holds, isFree}
+use Rattle.pin_records.specs.Find.{isFree}
 
 -- x is read from a slot's bytes: a, if the slot is used
 pub record ReadFrom {A : Type 0} (s : List ℕ) (a : A) (x : Option A) : Type 0 where
@@ -40,7 +40,7 @@ module _ {A : Type 0} {s : List ℕ} {a : A} {x : Option A} (r : ReadFrom s a x)
   pub read-unused : (p : A → Bool) → isUsed s ≡ false → holds p x ≡ false
   read-unused p u = rw (r .is, u)
 
-  pub read-used : (p : A → Bool) → isUsed s ≡ true → holds p x ≡ p a
+  read-used : (p : A → Bool) → isUsed s ≡ true → holds p x ≡ p a
   read-used p u = rw (r .is, u)
 
 pub read-key : {s : List ℕ} {x : Option KeyRecord} (key : List ℕ) → ReadFrom s (keyRead s) x → isUsed s ≡ true

@@ -1,4 +1,4 @@
--- The area after each store: it holds the table with that record. Assumes nothing.
+-- The area after each store: it holds the table with that record.
 use mathlib.Core.Path.{_≡_, refl, sym, _∙_, ap}
 use mathlib.Core.Bool.{true, false, true≢false, false≢true}
 use mathlib.Core.List.{List, [], _∷_, _++_}
@@ -12,20 +12,19 @@ use Rattle.octets.specs.Octets.{part, put, bigEndian}
 use Rattle.octets.proofs.Parts.{set-put, set-inside, put-nested, put-length}
 use Rattle.octets.proofs.Numbers.{bigEndian-length}
 use Rattle.octets.proofs.Equal.{same-refl}
-use Rattle.pin_model.specs.Slots.{used}
-use Rattle.pin_model.specs.Table.{KeyRecord, NameRecord, Table, keyIs, keyRecorded}
-use Rattle.pin_model.specs.Layout.{placeOf, keyAt, encodeKey, encodeName, encode}
-use Rattle.pin_model.specs.Sound.{keySlot, nameSlot}
-use Rattle.pin_model.proofs.Places.{passes, freeOr, any-at}
+use Rattle.pin_model.specs.Table.{KeyRecord, NameRecord, Table, keyIs, keyRecorded, settledAt, keyRecord, nameRecord}
+use Rattle.pin_model.specs.Layout.{placeOf, keyAt, encodeKey, encodeName, encode, keySlot, nameSlot}
+use Rattle.pin_model.specs.Fits.{holds, fourBytes, nameFits, Fits}
+use Rattle.pin_model.proofs.Places.{freeOr, any-at}
 use Rattle.pin_model.proofs.KeyPlaces.{place-once}
-use Rattle.pin_model.proofs.Fits.{fourBytes, nameFits, Fits, NameFits, name-fits, fits-name, name-fits-at}
+use Rattle.pin_model.proofs.Fits.{NameFits, name-fits, fits-name, name-fits-at}
 use Rattle.pin_model.proofs.NameBytes.{name-length}
 use Rattle.pin_model.proofs.Encoded.{encode-length, encode-key-slot, encode-name-slot}
 use Rattle.pin_model.proofs.Written.{write-latest}
 use Rattle.pin_model.proofs.Kept.{KeyWritten, NameWritten, fits-latest, floor-written, new-key-written, name-written}
-use Rattle.pin_records.specs.Holds.{Distinct, Holds, withKey, withName, withLatest}
+use Rattle.pin_records.specs.Holds.{Distinct, Holds, withKey, withName}
 use Rattle.pin_records.specs.Find.{isFree}
-use Rattle.pin_records.specs.Store.{keyRecord, nameRecord, withFloor, withEnd, Fresh}
+use Rattle.pin_records.specs.Store.{withFloor, withEnd, Fresh}
 use Rattle.pin_records.proofs.DistinctNames.{distinct-same, distinct-added}
 
 -- a change in a slot s of w bytes is the slot put anew
@@ -48,7 +47,7 @@ newName k name clock =
     ((((1 ∷ (k % 256 ∷ (length name % 256 ∷ (0 ∷ [])))) ++ bigEndian 4 clock) ++ replicate 8 0) ++ name) ++ replicate (256 - length name) 0
 
 new-name : (keys : List (Option KeyRecord)) (k clock : ℕ) (name key : List ℕ) → k < 64 → length name ≤ 253 → placeOf key keys ≡ k
-    → newName k name clock ≡ encodeName keys (some (nameRecord name key clock))
+    → newName k name clock ≡ encodeName keys (some (nameRecord name key clock none))
 unfolding encodeName bigEndian
 new-name keys k clock name key l short e =
     let number : k % 256 ≡ k = mod-eq-of-lt (omega arith) in
@@ -66,23 +65,23 @@ module _ {b : List ℕ} {t : Table} (h : Holds b t) where
   name-there n r l e = ap (λ (a : List ℕ). nameSlot a n) (h .bytes) ∙ encode-name-slot t (h .fits) n l ∙ ap (encodeName (t .keys)) e
 
   -- a slot put into the area
-  pub key-put : {d : List ℕ} {k : ℕ} {x : Option KeyRecord} → KeyWritten t k x → d ≡ put b (8 + 72 * k) (encodeKey x) → Holds d (withKey t k x)
+  key-put : {d : List ℕ} {k : ℕ} {x : Option KeyRecord} → KeyWritten t k x → d ≡ put b (8 + 72 * k) (encodeKey x) → Holds d (withKey t k x)
   key-put {d} {k} {x} w e =
       let bytes : d ≡ encode (withKey t k x) = e ∙ ap (λ (a : List ℕ). put a (8 + 72 * k) (encodeKey x)) (h .bytes) ∙ w .area in
       record { bytes = bytes; long = ap length bytes ∙ encode-length (withKey t k x) (w .fits); fits = w .fits; distinct = h .distinct }
 
-  pub name-put : {d : List ℕ} {n : ℕ} {x : Option NameRecord} → NameWritten t n x → Distinct (t .two) (set (t .names) n x)
+  name-put : {d : List ℕ} {n : ℕ} {x : Option NameRecord} → NameWritten t n x → Distinct (t .two) (set (t .names) n x)
       → d ≡ put b (4616 + 272 * n) (encodeName (t .keys) x) → Holds d (withName t n x)
   name-put {d} {n} {x} w distinct e =
       let bytes : d ≡ encode (withName t n x) = e ∙ ap (λ (a : List ℕ). put a (4616 + 272 * n) (encodeName (t .keys) x)) (h .bytes) ∙ w .area in
       record { bytes = bytes; long = ap length bytes ∙ encode-length (withName t n x) (w .fits); fits = w .fits; distinct = distinct }
 
   -- the stores
-  pub latest-stored : {d : List ℕ} (v : ℕ) → v < fourBytes → d ≡ put b 0 (bigEndian 4 v) → Holds d (withLatest t v)
+  pub latest-stored : {d : List ℕ} (v : ℕ) → v < fourBytes → d ≡ put b 0 (bigEndian 4 v) → Holds d (settledAt v t)
   latest-stored {d} v l e =
-      let bytes : d ≡ encode (withLatest t v) = e ∙ ap (λ (a : List ℕ). put a 0 (bigEndian 4 v)) (h .bytes) ∙ write-latest t v in
-      let fits : Fits (withLatest t v) = fits-latest t (h .fits) v l in
-      record { bytes = bytes; long = ap length bytes ∙ encode-length (withLatest t v) fits; fits = fits; distinct = h .distinct }
+      let bytes : d ≡ encode (settledAt v t) = e ∙ ap (λ (a : List ℕ). put a 0 (bigEndian 4 v)) (h .bytes) ∙ write-latest t v in
+      let fits : Fits (settledAt v t) = fits-latest t (h .fits) v l in
+      record { bytes = bytes; long = ap length bytes ∙ encode-length (settledAt v t) fits; fits = fits; distinct = h .distinct }
 
   pub floor-stored : (k floor : ℕ) → k < 64 → isFree (getD (t .keys) k none) ≡ false
       → Holds (set b (8 + 72 * k + 1) floor) (withKey t k (withFloor floor (getD (t .keys) k none)))
@@ -134,15 +133,15 @@ module _ {b : List ℕ} {t : Table} (h : Holds b t) where
 
   pub name-stored : {d : List ℕ} (n k clock : ℕ) (name : List ℕ) → n < 128 → k < 64 → isFree (getD (t .keys) k none) ≡ false → length name ≤ 253
       → Fresh (t .two) name (keyAt (getD (t .keys) k none)) n (t .names) → clock < fourBytes → d ≡ put b (4616 + 272 * n) (newName k name clock)
-      → Holds d (withName t n (some (nameRecord name (keyAt (getD (t .keys) k none)) clock)))
+      → Holds d (withName t n (some (nameRecord name (keyAt (getD (t .keys) k none)) clock none)))
   name-stored {d} n k clock name l m used-slot short fresh small q = go (getD (t .keys) k none) refl used-slot fresh
     where
       go : (y : Option KeyRecord) → getD (t .keys) k none ≡ y → isFree y ≡ false → Fresh (t .two) name (keyAt y) n (t .names)
-          → Holds d (withName t n (some (nameRecord name (keyAt y) clock)))
+          → Holds d (withName t n (some (nameRecord name (keyAt y) clock none)))
       go none e u f = absurd (true≢false u)
       go (some x) e u f =
-          let r : NameRecord = nameRecord name (x .key) clock in
-          let its : passes (keyIs (x .key)) (getD (t .keys) k none) ≡ true = ap (passes (keyIs (x .key))) e ∙ same-refl (x .key) in
+          let r : NameRecord = nameRecord name (x .key) clock none in
+          let its : holds (keyIs (x .key)) (getD (t .keys) k none) ≡ true = ap (holds (keyIs (x .key))) e ∙ same-refl (x .key) in
           let place : placeOf (x .key) (t .keys) ≡ k = place-once (x .key) (t .keys) k its (h .fits .keyOnce (x .key)) in
           name-put
           (name-written t (h .fits) n (some r) l

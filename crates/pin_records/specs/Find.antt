@@ -1,22 +1,17 @@
 -- Where records stand among the slots. Cited by the functions between the open ones and the bytes: a reader of the open
--- contracts can skip this file. Assumes nothing.
+-- contracts can skip this file.
 use mathlib.Core.Bool.{Bool, true, false, cond}
 use mathlib.Core.List.{List, [], _∷_}
 use mathlib.Core.Option.{Option, none, some}
 use Prim.Native.Nat.{ℕ, suc}
 use lib.Dec.{ltb}
 use Rattle.pin_model.specs.Table.{KeyRecord, NameRecord}
-use Rattle.pin_model.proofs.Places.{passes}
 use Rattle.pin_records.specs.declared.find.FoundKey.{FoundKey}
 use Rattle.pin_records.specs.declared.find.FoundKey.the-variants as key-found
 use Rattle.pin_records.specs.declared.find.FoundName.{FoundName}
 use Rattle.pin_records.specs.declared.find.FoundName.the-variants as name-found
 
 module _ {A : Type 0} where
-  -- whether a slot is used and passes the test
-  abbrev pub holds : (A → Bool) → Option A → Bool
-  holds p slot = passes p slot
-
   abbrev pub isFree : Option A → Bool
   isFree none = true
   isFree (some a) = false

@@ -1,5 +1,5 @@
 -- An area that stores a table, and the table with one slot set. Cited by the functions between the open ones and the bytes:
--- a reader of the open contracts can skip this file. Assumes nothing.
+-- a reader of the open contracts can skip this file.
 use mathlib.Core.Path.{_≡_}
 use mathlib.Core.Bool.{Bool}
 use mathlib.Core.List.{List}
@@ -7,9 +7,9 @@ use mathlib.Core.Option.{Option}
 use Prim.Native.Nat.{ℕ, _≤_}
 use lib.ListN.{length, set}
 use Rattle.pin_model.specs.Slots.{count, used}
-use Rattle.pin_model.specs.Table.{KeyRecord, NameRecord, Table, holding, settledAt, nameIs, pinIs, recordsOfAName, keysNamedBy}
+use Rattle.pin_model.specs.Table.{KeyRecord, NameRecord, Table, holding, nameIs, pinIs, recordsOfAName, keysNamedBy}
 use Rattle.pin_model.specs.Layout.{areaLength, encode, decode}
-use Rattle.pin_model.proofs.Fits.{Fits}
+use Rattle.pin_model.specs.Fits.{Fits}
 
 -- no name has more records than its edition allows, and none has two with one key
 pub record Distinct (two : Bool) (names : List (Option NameRecord)) : Type 0 where
@@ -27,15 +27,12 @@ pub record Holds (b : List ℕ) (t : Table) : Type 0 where
 abbrev pub Stored : List ℕ → Type 0
 Stored b = Holds b (decode b)
 
--- a table with one slot set, or latest
+-- a table with one slot set
 abbrev pub withKey : Table → ℕ → Option KeyRecord → Table
 withKey t k x = holding t (set (t .keys) k x) (t .names)
 
 abbrev pub withName : Table → ℕ → Option NameRecord → Table
 withName t n x = holding t (t .keys) (set (t .names) n x)
-
-abbrev pub withLatest : Table → ℕ → Table
-withLatest t v = settledAt v t
 
 -- without the keys that no name is left on
 abbrev pub withoutUnnamed : Table → Table

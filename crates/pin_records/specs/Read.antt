@@ -1,5 +1,5 @@
 -- What a record says, as the functions answer it. Cited by the functions between the open ones and the bytes: a reader of the
--- open contracts can skip this file. Assumes nothing.
+-- open contracts can skip this file.
 use mathlib.Core.List.{List}
 use mathlib.Core.Option.{Option, none, some}
 use Prim.Native.Nat.{ℕ}

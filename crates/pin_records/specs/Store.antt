@@ -1,5 +1,5 @@
 -- Records as the stores write them. Cited by the functions between the open ones and the bytes: a reader of the open contracts
--- can skip this file. Assumes nothing.
+-- can skip this file.
 use mathlib.Core.Path.{_≡_}
 use mathlib.Core.Bool.{Bool, false}
 use mathlib.Core.List.{List}
@@ -8,13 +8,7 @@ use Prim.Native.Nat.{ℕ, _<_}
 use lib.ListN.{set}
 use Rattle.octets.specs.Octets.{any}
 use Rattle.pin_model.specs.Slots.{count, used}
-use Rattle.pin_model.specs.Table.{KeyRecord, NameRecord, nameIs, pinIs, recordsOfAName}
-
-abbrev pub keyRecord : List ℕ → ℕ → KeyRecord
-keyRecord k m = record { key = k; floor = m }
-
-abbrev pub nameRecord : List ℕ → List ℕ → ℕ → NameRecord
-nameRecord n k clock = record { name = n; key = k; initial = clock; end = none }
+use Rattle.pin_model.specs.Table.{KeyRecord, keyRecord, NameRecord, nameRecord, nameIs, pinIs, recordsOfAName}
 
 -- a used slot with another floor, or another end
 abbrev pub withFloor : ℕ → Option KeyRecord → Option KeyRecord
@@ -23,7 +17,7 @@ withFloor m (some k) = some (keyRecord (k .key) m)
 
 abbrev pub withEnd : ℕ → Option NameRecord → Option NameRecord
 withEnd e none = none
-withEnd e (some r) = some (record { name = r .name; key = r .key; initial = r .initial; end = some e })
+withEnd e (some r) = some (nameRecord (r .name) (r .key) (r .initial) (some e))
 
 -- slot n may take a record of the name and the key: of the other slots fewer have the name than the edition allows, and none has
 -- both

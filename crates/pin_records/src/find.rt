@@ -1,8 +1,10 @@
 // Which slot holds a key, a name or a pin, and which is free.
 use crate::read;
 use pin_table::slots;
+use pin_table::slots::KEY_AT;
 use pin_table::slots::KEY_SLOTS;
 use pin_table::slots::KeySlot;
+use pin_table::slots::NAME_AT;
 use pin_table::slots::NAME_SLOTS;
 use pin_table::slots::NameSlot;
 ghost use mathlib.Core.Path.{_≡_};
@@ -11,8 +13,9 @@ ghost use Prim.Native.Nat.{_<_};
 ghost use lib.ListN.{length, getD};
 ghost use Rattle.pin_model.specs.Table.{keyIs, nameIs, pinIs};
 ghost use Rattle.pin_model.specs.Layout.{decode};
+ghost use Rattle.pin_model.specs.Fits.{holds};
 ghost use Rattle.pin_records.specs.Holds.{Stored};
-ghost use Rattle.pin_records.specs.Find.{holds, isFree, firstSlot, secondSlot, keyFound, nameFound};
+ghost use Rattle.pin_records.specs.Find.{isFree, firstSlot, secondSlot, keyFound, nameFound};
 
 pub enum FoundKey {
     At(KeySlot),
@@ -33,7 +36,7 @@ pub fn holds_key(area: &[u8], k: KeySlot, key: &[u8]) -> bool
     if !slots::is_used(s) {
         return false;
     }
-    octets::same_64_at(s, 8, key)
+    octets::same_64_at(s, KEY_AT, key)
 }
 
 // Whether the slot holds this name's record.
@@ -48,7 +51,7 @@ pub fn holds_name(area: &[u8], n: NameSlot, name: &[u8]) -> bool
     if slots::name_length(s) != name.len() {
         return false;
     }
-    octets::same_at(s, 16, name)
+    octets::same_at(s, NAME_AT, name)
 }
 
 pub fn find_key(area: &[u8], key: &[u8]) -> FoundKey

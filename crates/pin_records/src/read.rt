@@ -2,6 +2,8 @@
 use crate::find;
 use pin_table::minutes::Minutes;
 use pin_table::slots;
+use pin_table::slots::END_PRESENT_AT;
+use pin_table::slots::FLOOR_AT;
 use pin_table::slots::KeySlot;
 use pin_table::slots::NameSlot;
 ghost use mathlib.Core.Path.{_≡_};
@@ -11,8 +13,9 @@ ghost use Prim.Native.Nat.{_<_};
 ghost use lib.ListN.{length, getD};
 ghost use Rattle.pin_model.specs.Table.{pinnedTo};
 ghost use Rattle.pin_model.specs.Layout.{decode, keyAt};
+ghost use Rattle.pin_model.specs.Fits.{holds};
 ghost use Rattle.pin_records.specs.Holds.{Stored};
-ghost use Rattle.pin_records.specs.Find.{holds, isFree, floorAt, initialAt, endAt};
+ghost use Rattle.pin_records.specs.Find.{isFree, floorAt, initialAt, endAt};
 ghost use Rattle.pin_records.specs.Read.{endFound, pinnedKey};
 
 pub enum PinEnd {
@@ -32,7 +35,7 @@ pub fn floor(area: &[u8], k: KeySlot) -> u8
     ensures { λ r. ⌜ r ≡ floorAt (getD (decode (now (area .entry)) .keys) (k .0) none) ⌝ }
 {
     let s = slots::key_slot(area, k);
-    s[1]
+    s[FLOOR_AT]
 }
 
 pub fn initial(area: &[u8], n: NameSlot) -> Minutes
@@ -47,7 +50,7 @@ pub fn end(area: &[u8], n: NameSlot) -> PinEnd
     ensures { λ r. ⌜ r ≡ endFound (endAt (getD (decode (now (area .entry)) .names) (n .0) none)) ⌝ }
 {
     let s = slots::name_slot(area, n);
-    if s[3] != 1 {
+    if s[END_PRESENT_AT] != 1 {
         return PinEnd::Absent;
     }
     PinEnd::At(slots::end(s))

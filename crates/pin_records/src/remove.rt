@@ -3,9 +3,11 @@ use crate::find;
 use crate::read;
 use pin_table::slots::KEY_SLOT_LENGTH;
 use pin_table::slots::KEY_SLOTS;
+use pin_table::slots::KEY_SLOTS_AT;
 use pin_table::slots::KeySlot;
 use pin_table::slots::NAME_SLOT_LENGTH;
 use pin_table::slots::NAME_SLOTS;
+use pin_table::slots::NAME_SLOTS_AT;
 use pin_table::slots::NameSlot;
 ghost use mathlib.Core.Path.{_≡_};
 ghost use mathlib.Core.Bool.{false};
@@ -24,7 +26,7 @@ pub fn clear_name(area: &mut [u8], n: NameSlot)
     ensures { λ _. ⌜ Holds (now (area .exit)) (withName (decode (now (area .entry))) (n .0) none) ⌝ }
 {
     let i = n.0;
-    octets::put_zeros(area, 4616 + NAME_SLOT_LENGTH * i, NAME_SLOT_LENGTH);
+    octets::put_zeros(area, NAME_SLOTS_AT + NAME_SLOT_LENGTH * i, NAME_SLOT_LENGTH);
 }
 
 // A key that no name is left on.
@@ -33,7 +35,7 @@ pub fn clear_key(area: &mut [u8], k: KeySlot)
     ensures { λ _. ⌜ Holds (now (area .exit)) (withKey (decode (now (area .entry))) (k .0) none) ⌝ }
 {
     let i = k.0;
-    octets::put_zeros(area, 8 + KEY_SLOT_LENGTH * i, KEY_SLOT_LENGTH);
+    octets::put_zeros(area, KEY_SLOTS_AT + KEY_SLOT_LENGTH * i, KEY_SLOT_LENGTH);
 }
 
 // Every key goes that no name is left on.

@@ -1,17 +1,18 @@
--- Marks for the keys that names refer to. Assumes nothing.
+-- Marks for the keys that names refer to.
 use mathlib.Core.Path.{_≡_, refl, sym, ap, _∙_}
 use mathlib.Core.Bool.{Bool, true, false, _||_}
 use mathlib.Core.List.{List}
 use Prim.Native.Nat.{ℕ, _+_, _<_}
 use native.Mathlib.Omega.{arith}
 use lib.Dec.{eqb}
-use lib.ListN.{length, getD, set, replicate, length-set, length-replicate, getD-replicate}
+use lib.ListN.{getD, set, replicate, length-set, length-replicate, getD-replicate}
 use lib.Seq.{getD-set-same, getD-set-other}
 use borrow.Author.Tests.{eqb-true, eqb-false, eq-eqb, ne-eqb}
 use Rattle.octets.specs.Search.{some}
 use Rattle.octets.proofs.Tests.{byTest}
 use Rattle.octets.proofs.Search.{some-true, some-more}
-use Rattle.pin_model.specs.Sound.{nameSlot, isUsed, keyNumber, refersTo}
+use Rattle.pin_model.specs.Layout.{nameSlot, isUsed, keyNumber}
+use Rattle.pin_model.specs.Sound.{refersTo}
 use Rattle.pin_soundness.specs.Marked.{KeysMarked}
 
 or-no : (x y : Bool) → y ≡ false → x ≡ (x || y)

@@ -1,4 +1,1 @@
-pub mod Hashes
 pub mod Marked
-pub mod Pins
-pub mod SeenMarks

@@ -1,10 +1,6 @@
-// Whether a lent area is a sound pin table. The rules are those of pin_model's Sound.antt; each has a function here that computes
-// it.
-mod distinct;
+// Whether a lent area is a sound pin table. The rules are those of pin_model's Sound.antt; each has a function that computes it,
+// here or, where it says that nothing stands too often, in pin_distinct.
 mod key_rules;
 mod links;
-mod marks;
 mod name_rules;
-mod repeats;
-mod seen_marks;
 pub mod sound;

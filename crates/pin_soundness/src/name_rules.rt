@@ -2,32 +2,35 @@
 use pin_table::minutes;
 use pin_table::minutes::Minutes;
 use pin_table::slots;
+use pin_table::slots::END_AT;
+use pin_table::slots::END_PRESENT_AT;
 use pin_table::slots::NAME_SLOT_LENGTH;
 use pin_table::slots::NAME_SLOTS;
 use pin_table::slots::NameSlot;
+use pin_table::slots::UNUSED_AT;
 ghost use mathlib.Core.Path.{_≡_};
 ghost use Prim.Native.Nat.{_≤_};
 ghost use lib.ListN.{length};
 ghost use Rattle.pin_model.specs.Table.{clockLimit};
-ghost use Rattle.pin_model.specs.Layout.{areaLength};
-ghost use Rattle.pin_model.specs.Sound.{latestIn, endSound, nameFormed, nameRight, nameShaped, namesShaped};
+ghost use Rattle.pin_model.specs.Layout.{areaLength, latestIn};
+ghost use Rattle.pin_model.specs.Sound.{endSound, nameFormed, nameRight, nameShaped, namesShaped};
 
 // The end: 0 where not present, otherwise from initial to thirty days after latest.
 pub fn end_sound(s: &[u8], latest: Minutes) -> bool
     requires { ⌜ (length (now s) ≡ 272) × (latest .0 ≤ clockLimit) ⌝ }
     ensures { λ r. ⌜ r ≡ endSound (latest .0) (now (s .entry)) ⌝ }
 {
-    if s[3] == 1 {
+    if s[END_PRESENT_AT] == 1 {
         let end = slots::end(s);
         if !minutes::not_after(slots::initial(s), end) {
             return false;
         }
         return minutes::not_after(end, latest.later());
     }
-    if s[3] != 0 {
+    if s[END_PRESENT_AT] != 0 {
         return false;
     }
-    octets::zeros_at(s, 8, 4)
+    octets::zeros_at(s, END_AT, 4)
 }
 
 // The name is well-formed, and zeros stand behind it.
@@ -44,7 +47,7 @@ pub fn name_right(s: &[u8], latest: Minutes) -> bool
     requires { ⌜ (length (now s) ≡ 272) × (latest .0 ≤ clockLimit) ⌝ }
     ensures { λ r. ⌜ r ≡ nameRight (latest .0) (now (s .entry)) ⌝ }
 {
-    if !octets::zeros_at(s, 12, 4) {
+    if !octets::zeros_at(s, UNUSED_AT, 4) {
         return false;
     }
     if !name_formed(s) {

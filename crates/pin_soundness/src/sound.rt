@@ -1,20 +1,21 @@
 // Whether an area is a sound pin table.
-use crate::distinct;
 use crate::key_rules;
 use crate::links;
 use crate::name_rules;
+use pin_distinct::distinct;
 use pin_table::minutes;
 use pin_table::minutes::Minutes;
 use pin_table::slots;
 use pin_table::slots::AREA_LENGTH;
+use pin_table::slots::EDITION_AT;
 ghost use mathlib.Core.Path.{_≡_};
 ghost use mathlib.Core.Bool.{true, _&&_};
 ghost use Prim.Native.Nat.{_≤_};
 ghost use lib.ListN.{length};
 ghost use Rattle.octets.specs.Octets.{allZero};
 ghost use Rattle.pin_model.specs.Table.{clockLimit};
-ghost use Rattle.pin_model.specs.Layout.{areaLength};
-ghost use Rattle.pin_model.specs.Sound.{latestIn, headSound, namesShaped, namesDistinct, namesKeyed, keysNamed, sound};
+ghost use Rattle.pin_model.specs.Layout.{areaLength, latestIn};
+ghost use Rattle.pin_model.specs.Sound.{headSound, namesShaped, namesDistinct, namesKeyed, keysNamed, sound};
 
 // The eight bytes before the slots.
 fn head_sound(area: &[u8]) -> bool
@@ -24,7 +25,7 @@ fn head_sound(area: &[u8]) -> bool
     if !minutes::not_after(slots::latest(area), Minutes::CLOCK_LIMIT) {
         return false;
     }
-    if 1 < area[4] {
+    if 1 < area[EDITION_AT] {
         return false;
     }
     octets::zeros_at(area, 5, 3)

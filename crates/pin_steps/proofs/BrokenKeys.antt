@@ -1,4 +1,4 @@
--- Step 3 by the broken keys: one key after the other, and one key on an area. Assumes nothing.
+-- Step 3 by the broken keys: one key after the other, and one key on an area.
 use mathlib.Core.Path.{_≡_, refl, sym, _∙_, ap, ap₂, subst, fun-ext}
 use mathlib.Core.Bool.{Bool, true, false, cond, _||_, true≢false, or-false}
 use mathlib.Core.List.{List, [], _∷_, _++_}
@@ -12,16 +12,17 @@ use Rattle.octets.proofs.Equal.{same-turned}
 use Rattle.pin_model.specs.Slots.{used, freed}
 use Rattle.pin_model.specs.Table.{Table, holding, keyIs, pinnedTo}
 use Rattle.pin_model.specs.Layout.{keyAt, decode}
-use Rattle.pin_model.specs.Judge.{listed}
+use Rattle.pin_model.specs.Fits.{nameFits}
+use Rattle.pin_model.specs.Connection.{listed}
+use Rattle.pin_model.specs.Judge.{break}
 use Rattle.pin_model.proofs.Lists.{any-count, all-implied, any-append, any-nothing}
 use Rattle.pin_model.proofs.Slots.{freed-none, count-gone}
 use Rattle.pin_model.proofs.Fields.{all-found}
-use Rattle.pin_model.proofs.Fits.{nameFits, name-fits}
+use Rattle.pin_model.proofs.Fits.{name-fits}
 use Rattle.pin_records.specs.Holds.{Holds, withKey}
 use Rattle.pin_records.specs.Find.{isFree}
 use Rattle.pin_records.proofs.HeldSlots.{holds-decode}
 use Rattle.pin_records.proofs.Found.{FoundAt, found-freed}
-use Rattle.pin_steps.specs.Steps.{breakBy}
 use Rattle.pin_steps.proofs.Tacks.{with-keys, with-names}
 
 module _ {A : Type 0} where
@@ -49,10 +50,10 @@ module _ {A : Type 0} (key : A → List ℕ) (ks ms : List (List ℕ)) where
       freed-twice (λ a. listed ks (key a)) (λ a. listed ms (key a)) l
       ∙ freed-ext (λ a. listed ks (key a) || listed ms (key a)) (λ a. listed (ks ++ ms) (key a)) (λ a. sym (any-append (λ b. same b (key a)) ks ms)) l
 
-pub break-more : (ks ms : List (List ℕ)) (t : Table) → breakBy ms (breakBy ks t) ≡ breakBy (ks ++ ms) t
+pub break-more : (ks ms : List (List ℕ)) (t : Table) → break ms (break ks t) ≡ break (ks ++ ms) t
 break-more ks ms t = ap₂ (holding t) (freed-more (λ k. k .key) ks ms (t .keys)) (freed-more (λ r. r .key) ks ms (t .names))
 
-pub break-none : (t : Table) → breakBy [] t ≡ t
+pub break-none : (t : Table) → break [] t ≡ t
 break-none t =
     ap₂ (holding t) (freed-none (λ k. false) (t .keys) (any-nothing (used (t .keys)))) (freed-none (λ r. false) (t .names) (any-nothing (used (t .names))))
 
@@ -62,7 +63,7 @@ by-key field key l =
     freed-ext (λ a. same (field a) key) (λ a. listed (key ∷ []) (field a)) (λ a. same-turned (field a) key ∙ sym (or-false (same key (field a)))) l
 
 module _ (key : List ℕ) {b : List ℕ} {t : Table} (h : Holds b t) where
-  to-key : {d : List ℕ} → Holds d (holding t (freed (keyIs key) (t .keys)) (freed (pinnedTo key) (t .names))) → Holds d (breakBy (key ∷ []) t)
+  to-key : {d : List ℕ} → Holds d (holding t (freed (keyIs key) (t .keys)) (freed (pinnedTo key) (t .names))) → Holds d (break (key ∷ []) t)
   to-key g = with-keys (by-key (λ k. k .key) key (t .keys)) (with-names (by-key (λ r. r .key) key (t .names)) g)
 
   -- a key that has no record has no names
@@ -73,7 +74,7 @@ module _ (key : List ℕ) {b : List ℕ} {t : Table} (h : Holds b t) where
       (all-implied (nameFits (t .keys)) (λ r. any (keyIs (r .key)) (used (t .keys))) (λ r f. name-fits (t .keys) r f .recorded) (used (t .names)) (h .fits .namesFit))
       key d) ∙ e))
 
-  pub break-absent : any (keyIs key) (used (t .keys)) ≡ false → Holds b (breakBy (key ∷ []) t)
+  pub break-absent : any (keyIs key) (used (t .keys)) ≡ false → Holds b (break (key ∷ []) t)
   break-absent e =
       to-key (with-keys (sym (freed-none (keyIs key) (t .keys) e)) (with-names (sym (freed-none (pinnedTo key) (t .names) (unnamed e))) h))
 
@@ -88,7 +89,7 @@ module _ (key : List ℕ) {b : List ℕ} {t : Table} (h : Holds b t) where
         ap (λ (v : Table). any (pinnedTo (keyAt (getD (v .keys) k none))) (used (v .names))) (holds-decode g)
         ∙ freed-gone (pinnedTo (keyAt (getD (t .keys) k none))) (t .names)
 
-    pub break-cleared : {a : List ℕ} → Holds a (withKey (decode d) k none) → Holds a (breakBy (key ∷ []) t)
+    pub break-cleared : {a : List ℕ} → Holds a (withKey (decode d) k none) → Holds a (break (key ∷ []) t)
     break-cleared {a} f =
         to-key (with-keys (sym (found-freed x (h .fits .keyOnce key)))
         (with-names (ap (λ (κ : List ℕ). freed (pinnedTo κ) (t .names)) (ap keyAt (x .there) ∙ x .its))

@@ -1,4 +1,4 @@
--- The loop that drops the names of a recorded key: the area after n name slots. Assumes nothing.
+-- The loop that drops the names of a recorded key: the area after n name slots.
 use mathlib.Core.Path.{_≡_, sym, _∙_, ap}
 use mathlib.Core.Bool.{Bool, true, false}
 use mathlib.Core.List.{List}
@@ -7,8 +7,9 @@ use Prim.Native.Nat.{ℕ, _+_}
 use lib.ListN.{getD}
 use Rattle.pin_model.specs.Table.{KeyRecord, NameRecord, Table, pinnedTo}
 use Rattle.pin_model.specs.Layout.{keyAt, decode}
+use Rattle.pin_model.specs.Fits.{holds}
 use Rattle.pin_records.specs.Holds.{Holds, withName}
-use Rattle.pin_records.specs.Find.{holds, isFree}
+use Rattle.pin_records.specs.Find.{isFree}
 use Rattle.pin_records.proofs.DroppedNames.{dropped, drop-keys, drop-stays, drop-goes}
 
 -- the records pinned to the key of slot k

@@ -1,4 +1,4 @@
--- Step 1 on an area: the floor of the tack's key rises, where it has a record with a lower one. Assumes nothing.
+-- Step 1 on an area: the floor of the tack's key rises, where it has a record with a lower one.
 use mathlib.Core.Path.{_≡_, sym, _∙_, ap}
 use mathlib.Core.Bool.{false}
 use mathlib.Core.List.{List}
@@ -10,11 +10,11 @@ use lib.Seq.{set-getD}
 use Rattle.octets.specs.Octets.{any}
 use Rattle.tack_extension.specs.Tack.{publicKey, minGeneration}
 use Rattle.pin_model.specs.Slots.{used, changed}
-use Rattle.pin_model.specs.Table.{KeyRecord, Table, keyIs}
+use Rattle.pin_model.specs.Table.{KeyRecord, Table, keyIs, keyRecord}
 use Rattle.pin_model.specs.Judge.{raisedTo, raise}
 use Rattle.pin_records.specs.Holds.{Holds, withKey}
 use Rattle.pin_records.specs.Find.{floorAt}
-use Rattle.pin_records.specs.Store.{keyRecord, withFloor}
+use Rattle.pin_records.specs.Store.{withFloor}
 use Rattle.pin_records.proofs.Placed.{changed-none}
 use Rattle.pin_records.proofs.Found.{FoundAt, found-changed}
 use Rattle.pin_steps.proofs.Tacks.{with-keys}

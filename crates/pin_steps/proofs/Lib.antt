@@ -1,13 +1,8 @@
 pub mod Tacks
 pub mod Floors
-pub mod OneRecord
 pub mod ActivePins
 pub mod PinnedTests
 pub mod LongerPins
 pub mod DroppedNames
 pub mod BrokenKeys
 pub mod BreakParts
-pub mod Creation
-pub mod KeyTaken
-pub mod RoomFound
-pub mod Wanted

@@ -1,4 +1,4 @@
--- The test that the code makes of a name's key: of the key slot whose number stands in the name's. Assumes nothing.
+-- The test that the code makes of a name's key: of the key slot whose number stands in the name's.
 use mathlib.Core.Path.{_≡_, _∙_, ap, ap₂}
 use mathlib.Core.Bool.{Bool}
 use mathlib.Core.List.{List}
@@ -8,9 +8,9 @@ use lib.ListN.{getD}
 use Rattle.octets.specs.Octets.{same}
 use Rattle.tack_extension.specs.Tack.{publicKey}
 use Rattle.pin_model.specs.Table.{NameRecord, Table, keyIs, pinnedTo}
+use Rattle.pin_model.specs.Fits.{holds}
 use Rattle.pin_model.proofs.KeyPlaces.{PlaceFound}
 use Rattle.pin_records.specs.Holds.{Holds}
-use Rattle.pin_records.specs.Find.{holds}
 use Rattle.pin_records.specs.Read.{pinnedKey}
 use Rattle.pin_records.proofs.PinnedKeys.{pinned-place}
 

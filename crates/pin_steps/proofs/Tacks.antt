@@ -1,4 +1,4 @@
--- What the steps share: an area's table put another way, a tack's key among the slots. Assumes nothing.
+-- What the steps share: an area's table put another way, a tack's key among the slots.
 use mathlib.Core.Path.{_≡_, _∙_, ap, subst}
 use mathlib.Core.Bool.{Bool, false}
 use mathlib.Core.List.{List}
@@ -9,10 +9,11 @@ use Rattle.octets.specs.Octets.{any}
 use Rattle.tack_extension.specs.Tack.{publicKey}
 use Rattle.pin_model.specs.Slots.{used}
 use Rattle.pin_model.specs.Table.{KeyRecord, NameRecord, Table, table, keyIs}
+use Rattle.pin_model.specs.Fits.{holds}
 use Rattle.pin_model.proofs.TackShown.{key-size}
 use Rattle.pin_table.specs.declared.slots.KeySlot.{KeySlot}
 use Rattle.pin_records.specs.Holds.{Holds}
-use Rattle.pin_records.specs.Find.{holds, firstSlot, keyFound}
+use Rattle.pin_records.specs.Find.{firstSlot, keyFound}
 use Rattle.pin_records.specs.declared.find.FoundKey.the-variants as key-found
 use Rattle.pin_records.proofs.Found.{FoundAt, key-found-at, key-absent}
 

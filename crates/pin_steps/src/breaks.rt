@@ -18,9 +18,9 @@ ghost use Rattle.tack_extension.specs.Tack.{breakKey, breakSignatures};
 ghost use Rattle.pin_model.specs.Slots.{freed};
 ghost use Rattle.pin_model.specs.Table.{holding, pinnedTo};
 ghost use Rattle.pin_model.specs.Layout.{decode, keyAt};
+ghost use Rattle.pin_model.specs.Judge.{break};
 ghost use Rattle.pin_records.specs.Holds.{Holds, Stored};
 ghost use Rattle.pin_records.specs.Find.{isFree};
-ghost use Rattle.pin_steps.specs.Steps.{breakBy};
 
 // The names of a recorded key go.
 fn drop_names(area: &mut [u8], k: KeySlot)
@@ -38,7 +38,7 @@ fn drop_names(area: &mut [u8], k: KeySlot)
 
 fn break_key(area: &mut [u8], key: &[u8])
     requires { ⌜ Stored (now area) × (length (now key) ≡ 64) ⌝ }
-    ensures { λ _. ⌜ Holds (now (area .exit)) (breakBy (now (key .entry) ∷ []) (decode (now (area .entry)))) ⌝ }
+    ensures { λ _. ⌜ Holds (now (area .exit)) (break (now (key .entry) ∷ []) (decode (now (area .entry)))) ⌝ }
 {
     let FoundKey::At(k) = find::find_key(area, key) else {
         return;
@@ -50,7 +50,7 @@ fn break_key(area: &mut [u8], key: &[u8])
 // One break signature after the other; the same key twice does nothing the second time.
 pub fn break_keys(area: &mut [u8], breaks: &[u8])
     requires { ⌜ Stored (now area) × (breaksLength (length (now breaks)) ≡ true) ⌝ }
-    ensures { λ _. ⌜ Holds (now (area .exit)) (breakBy (map breakKey (breakSignatures (now (breaks .entry)))) (decode (now (area .entry)))) ⌝ }
+    ensures { λ _. ⌜ Holds (now (area .exit)) (break (map breakKey (breakSignatures (now (breaks .entry)))) (decode (now (area .entry)))) ⌝ }
 {
     let count = breaks.len() / 128;
     let mut i = 0;

@@ -11,12 +11,13 @@ ghost use mathlib.Core.Bool.{true, false};
 ghost use mathlib.Core.Option.{none};
 ghost use Prim.Native.Nat.{_≤_, _<_};
 ghost use lib.ListN.{length, getD};
-ghost use Rattle.pin_model.specs.Table.{clockLimit};
+ghost use Rattle.pin_model.specs.Table.{clockLimit, settledAt};
 ghost use Rattle.pin_model.specs.Layout.{decode};
-ghost use Rattle.pin_model.proofs.Initials.{BegunBy};
+ghost use Rattle.pin_model.specs.SoundTable.{soundTable};
+ghost use Rattle.pin_model.specs.Judge.{extend};
 ghost use Rattle.pin_records.specs.Holds.{Holds, Stored, withName};
 ghost use Rattle.pin_records.specs.Find.{isFree, initialAt};
-ghost use Rattle.pin_steps.specs.Steps.{extendedAt, extendBy};
+ghost use Rattle.pin_steps.specs.Steps.{extendedAt};
 
 // The pin of a used slot. Its initial is not after the clock, so the difference below cannot wrap.
 pub fn extend_at(area: &mut [u8], n: NameSlot, clock: Minutes)
@@ -27,10 +28,10 @@ pub fn extend_at(area: &mut [u8], n: NameSlot, clock: Minutes)
     store::store_end(area, n, end);
 }
 
-// Where activation is enabled. No record's initial is after the clock.
+// Where activation is enabled. The table is sound with the clock in latest's place, so no record's initial is after the clock.
 pub fn extend_pin(area: &mut [u8], name: &[u8], tack: &[u8], clock: Minutes)
-    requires { ⌜ Stored (now area) × (length (now tack) ≡ 166) × (clock .0 ≤ clockLimit) × BegunBy (clock .0) (decode (now area)) × (decode (now area) .two ≡ false) ⌝ }
-    ensures { λ _. ⌜ Holds (now (area .exit)) (extendBy true (now (name .entry)) (now (tack .entry)) (clock .0) (decode (now (area .entry)))) ⌝ }
+    requires { ⌜ Stored (now area) × (length (now tack) ≡ 166) × (soundTable (settledAt (clock .0) (decode (now area))) ≡ true) × (decode (now area) .two ≡ false) ⌝ }
+    ensures { λ _. ⌜ Holds (now (area .exit)) (extend true (now (name .entry)) (clock .0) (now (tack .entry)) (decode (now (area .entry)))) ⌝ }
 {
     let FoundName::At(n) = find::find_name(area, name) else {
         return;

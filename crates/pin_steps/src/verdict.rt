@@ -15,11 +15,11 @@ ghost use lib.ListN.{length, getD};
 ghost use Rattle.tack_extension.specs.Extension.{tackLength};
 ghost use Rattle.pin_model.specs.Table.{active};
 ghost use Rattle.pin_model.specs.Layout.{decode};
-ghost use Rattle.pin_model.specs.Judge.{unlessEmpty};
+ghost use Rattle.pin_model.specs.Fits.{holds};
+ghost use Rattle.pin_model.specs.Connection.{unlessEmpty};
+ghost use Rattle.pin_model.specs.Judge.{verdictBy};
 ghost use Rattle.pin_answers.specs.Numbers.{verdictNumber};
 ghost use Rattle.pin_records.specs.Holds.{Stored};
-ghost use Rattle.pin_records.specs.Find.{holds};
-ghost use Rattle.pin_steps.specs.Steps.{verdictBy};
 
 // Whether the slot's pin is active: its end is present and the clock before it.
 pub fn is_active(area: &[u8], n: NameSlot, clock: Minutes) -> bool

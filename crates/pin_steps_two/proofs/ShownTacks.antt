@@ -1,4 +1,4 @@
--- What a call's tacks say of a record, part by part. Assumes nothing.
+-- What a call's tacks say of a record, part by part.
 use mathlib.Core.Path.{_≡_, refl, sym, _∙_, ap, ap₂, subst}
 use mathlib.Core.Bool.{Bool, true, false, not, _&&_, _||_, or-false, true≢false, false≢true}
 use mathlib.Core.List.{List, [], _∷_, _++_}
@@ -13,13 +13,15 @@ use Rattle.tack_extension_two.specs.ExtensionTwo.{partsTwo, enablesFirst, enabl
 use Rattle.pin_model.specs.Slots.{used}
 use Rattle.pin_model.specs.Table.{NameRecord, Table, pinnedTo, settledAt}
 use Rattle.pin_model.specs.Layout.{decode}
+use Rattle.pin_model.specs.Fits.{holds}
+use Rattle.pin_model.specs.Connection.{Shown, shownIn, tacksIn, keyShown}
 use Rattle.pin_model.specs.Judge.{raise, activeOf}
-use Rattle.pin_model.specs.JudgeTwo.{Shown, shownIn, tacksIn, keyShown, contradicted, raiseEach, raisedAt}
+use Rattle.pin_model.specs.JudgeTwo.{contradicted, raiseEach, raisedAt}
 use Rattle.pin_model.proofs.Lists.{any-ext, any-append}
-use Rattle.pin_records.specs.Holds.{Holds, withLatest}
-use Rattle.pin_records.specs.Find.{holds, isFree}
+use Rattle.pin_records.specs.Holds.{Holds}
+use Rattle.pin_records.specs.Find.{isFree}
 use Rattle.pin_records.proofs.HeldSlots.{holds-decode}
-use Rattle.pin_tests_two.specs.Parts.{tacksBy, bothTacks}
+use Rattle.pin_refusals_two.specs.Parts.{tacksBy, bothTacks}
 use Rattle.pin_steps_two.specs.Shown.{shownFor, enabledFor}
 
 -- one tack
@@ -141,7 +143,7 @@ raise-append [] m t = refl
 raise-append (s ∷ l) m t = raise-append l m (raise (s .tack) t)
 
 pub raised-both : {a d e : List ℕ} (first second : List ℕ) (clock : ℕ) (t : Table) → Holds a (raiseEach (shownIn true first) t)
-    → Holds d (raiseEach (shownIn true second) (decode a)) → Holds e (withLatest (decode d) clock) → Holds e (raisedAt clock (bothTacks first second) t)
+    → Holds d (raiseEach (shownIn true second) (decode a)) → Holds e (settledAt clock (decode d)) → Holds e (raisedAt clock (bothTacks first second) t)
 raised-both {a} {d} {e} first second clock t f g h =
     subst (λ (u : Table). Holds e (settledAt clock u))
     (holds-decode g ∙ ap (raiseEach (shownIn true second)) (holds-decode f) ∙ sym (raise-append (shownIn true first) (shownIn true second) t)) h

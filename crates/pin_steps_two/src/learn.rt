@@ -1,7 +1,7 @@
 // Each enabled tack in order extends its record, or makes one if the name has fewer than two.
+use pin_creation::create;
 use pin_records::find;
 use pin_records::find::FoundName;
-use pin_steps::create;
 use pin_steps::extend;
 use pin_table::minutes::Minutes;
 use tack_extension::fields;
@@ -11,14 +11,15 @@ ghost use lib.ListN.{length};
 ghost use Rattle.host_name.specs.Name.{wellFormed};
 ghost use Rattle.tack_extension.specs.Extension.{tackLength};
 ghost use Rattle.pin_model.specs.Layout.{decode};
-ghost use Rattle.pin_model.specs.JudgeTwo.{shownIn, hasOwn, wantsOwn, roomOf, makeOwn, learnEach, lacksAny};
-ghost use Rattle.pin_model.proofs.SoundTwo.{Stage};
+ghost use Rattle.pin_model.specs.Connection.{shownIn};
+ghost use Rattle.pin_model.specs.JudgeTwo.{hasOwn, wantsOwn, roomOf, makeOwn, learnEach, noRoomEach};
 ghost use Rattle.pin_records.specs.Holds.{Holds, Stored};
-ghost use Rattle.pin_tests_two.specs.Parts.{tacksBy, TackParts};
+ghost use Rattle.pin_refusals_two.specs.Parts.{tacksBy, TackParts};
+ghost use Rattle.pin_steps_two.specs.SettledTwo.{SettledTwo};
 
 // A record for the name and the tack's key, which has none. The answer is 'no room', with which nothing changes.
 fn make_own(area: &mut [u8], name: &[u8], tack: &[u8], clock: Minutes) -> bool
-    requires { ⌜ Stored (now area) × Stage (clock .0) (decode (now area)) × (length (now tack) ≡ 166) × (wellFormed (now name) ≡ true) × (hasOwn (now name) (now tack) (decode (now area)) ≡ false) ⌝ }
+    requires { ⌜ Stored (now area) × SettledTwo (clock .0) (decode (now area)) × (length (now tack) ≡ 166) × (wellFormed (now name) ≡ true) × (hasOwn (now name) (now tack) (decode (now area)) ≡ false) ⌝ }
     ensures { λ r. ⌜ (r ≡ (wantsOwn (now (name .entry)) (now (tack .entry)) (decode (now (area .entry))) && not (roomOf (now (tack .entry)) (decode (now (area .entry)))))) × Holds (now (area .exit)) (makeOwn (now (name .entry)) (clock .0) (now (tack .entry)) (decode (now (area .entry)))) ⌝ }
 {
     if let FoundName::At(_) = find::second_name(area, name) {
@@ -36,8 +37,8 @@ fn make_own(area: &mut [u8], name: &[u8], tack: &[u8], clock: Minutes) -> bool
 
 // One tack. The answer is 'no room'.
 fn learn_own(area: &mut [u8], name: &[u8], tack: &[u8], enabled: bool, clock: Minutes) -> bool
-    requires { ⌜ Stored (now area) × Stage (clock .0) (decode (now area)) × (tackLength (length (now tack)) ≡ true) × (wellFormed (now name) ≡ true) ⌝ }
-    ensures { λ r. ⌜ (r ≡ lacksAny (now (name .entry)) (clock .0) (shownIn enabled (now (tack .entry))) (decode (now (area .entry)))) × Holds (now (area .exit)) (learnEach (now (name .entry)) (clock .0) (shownIn enabled (now (tack .entry))) (decode (now (area .entry)))) ⌝ }
+    requires { ⌜ Stored (now area) × SettledTwo (clock .0) (decode (now area)) × (tackLength (length (now tack)) ≡ true) × (wellFormed (now name) ≡ true) ⌝ }
+    ensures { λ r. ⌜ (r ≡ noRoomEach (now (name .entry)) (clock .0) (shownIn enabled (now (tack .entry))) (decode (now (area .entry)))) × Holds (now (area .exit)) (learnEach (now (name .entry)) (clock .0) (shownIn enabled (now (tack .entry))) (decode (now (area .entry)))) ⌝ }
 {
     if tack.len() == 0 {
         return false;
@@ -61,8 +62,8 @@ pub fn learn_each(
     flags: u8,
     clock: Minutes,
 ) -> bool
-    requires { ⌜ Stored (now area) × Stage (clock .0) (decode (now area)) × TackParts (now first) (now second) × (wellFormed (now name) ≡ true) ⌝ }
-    ensures { λ r. ⌜ (r ≡ lacksAny (now (name .entry)) (clock .0) (tacksBy (now (first .entry)) (now (second .entry)) flags) (decode (now (area .entry)))) × Holds (now (area .exit)) (learnEach (now (name .entry)) (clock .0) (tacksBy (now (first .entry)) (now (second .entry)) flags) (decode (now (area .entry)))) ⌝ }
+    requires { ⌜ Stored (now area) × SettledTwo (clock .0) (decode (now area)) × TackParts (now first) (now second) × (wellFormed (now name) ≡ true) ⌝ }
+    ensures { λ r. ⌜ (r ≡ noRoomEach (now (name .entry)) (clock .0) (tacksBy (now (first .entry)) (now (second .entry)) flags) (decode (now (area .entry)))) × Holds (now (area .exit)) (learnEach (now (name .entry)) (clock .0) (tacksBy (now (first .entry)) (now (second .entry)) flags) (decode (now (area .entry)))) ⌝ }
 {
     let first_lacks = learn_own(area, name, first, flags % 2 == 1, clock);
     let second_lacks = learn_own(area, name, second, flags / 2 % 2 == 1, clock);

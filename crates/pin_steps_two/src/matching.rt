@@ -9,10 +9,11 @@ ghost use Prim.Native.Nat.{_<_};
 ghost use lib.ListN.{length, getD};
 ghost use Rattle.tack_extension.specs.Extension.{tackLength};
 ghost use Rattle.pin_model.specs.Layout.{decode};
-ghost use Rattle.pin_model.specs.JudgeTwo.{shownIn};
+ghost use Rattle.pin_model.specs.Fits.{holds};
+ghost use Rattle.pin_model.specs.Connection.{shownIn};
 ghost use Rattle.pin_records.specs.Holds.{Stored};
-ghost use Rattle.pin_records.specs.Find.{holds, isFree};
-ghost use Rattle.pin_tests_two.specs.Parts.{tacksBy, bothTacks, TackParts};
+ghost use Rattle.pin_records.specs.Find.{isFree};
+ghost use Rattle.pin_refusals_two.specs.Parts.{tacksBy, bothTacks, TackParts};
 ghost use Rattle.pin_steps_two.specs.Shown.{shownFor, enabledFor};
 
 // One tack, and the record of a used name slot.

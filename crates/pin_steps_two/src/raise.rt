@@ -7,9 +7,10 @@ ghost use mathlib.Core.Bool.{true};
 ghost use lib.ListN.{length};
 ghost use Rattle.tack_extension.specs.Extension.{tackLength};
 ghost use Rattle.pin_model.specs.Layout.{decode};
-ghost use Rattle.pin_model.specs.JudgeTwo.{shownIn, raiseEach, raisedAt};
+ghost use Rattle.pin_model.specs.Connection.{shownIn};
+ghost use Rattle.pin_model.specs.JudgeTwo.{raiseEach, raisedAt};
 ghost use Rattle.pin_records.specs.Holds.{Holds, Stored};
-ghost use Rattle.pin_tests_two.specs.Parts.{bothTacks, TackParts};
+ghost use Rattle.pin_refusals_two.specs.Parts.{bothTacks, TackParts};
 
 fn raise_floor(area: &mut [u8], tack: &[u8])
     requires { ⌜ Stored (now area) × (tackLength (length (now tack)) ≡ true) ⌝ }

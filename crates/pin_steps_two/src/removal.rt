@@ -13,10 +13,10 @@ ghost use lib.ListN.{getD};
 ghost use Rattle.pin_model.specs.Slots.{freed};
 ghost use Rattle.pin_model.specs.Table.{holding, withoutAll};
 ghost use Rattle.pin_model.specs.Layout.{decode};
+ghost use Rattle.pin_model.specs.Fits.{holds};
 ghost use Rattle.pin_model.specs.JudgeTwo.{isRemoved};
 ghost use Rattle.pin_records.specs.Holds.{Holds, Stored};
-ghost use Rattle.pin_records.specs.Find.{holds};
-ghost use Rattle.pin_tests_two.specs.Parts.{tacksBy, TackParts};
+ghost use Rattle.pin_refusals_two.specs.Parts.{tacksBy, TackParts};
 
 // Whether the slot has such a record.
 fn is_removed(

@@ -13,11 +13,11 @@ ghost use lib.ListN.{getD};
 ghost use Rattle.octets.specs.Octets.{any};
 ghost use Rattle.pin_model.specs.Slots.{used};
 ghost use Rattle.pin_model.specs.Layout.{decode};
-ghost use Rattle.pin_model.specs.JudgeTwo.{contradicted};
+ghost use Rattle.pin_model.specs.Fits.{holds};
 ghost use Rattle.pin_model.specs.Judge.{activeOf};
+ghost use Rattle.pin_model.specs.JudgeTwo.{contradicted};
 ghost use Rattle.pin_records.specs.Holds.{Stored};
-ghost use Rattle.pin_records.specs.Find.{holds};
-ghost use Rattle.pin_tests_two.specs.Parts.{bothTacks, TackParts};
+ghost use Rattle.pin_refusals_two.specs.Parts.{bothTacks, TackParts};
 ghost use Rattle.pin_steps_two.specs.Shown.{shownFor};
 
 // Whether the slot has an active record of the name.

@@ -1,4 +1,4 @@
--- What a call's answer says of the rule that it computes. Assumes nothing.
+-- What a call's answer says of the rule that it computes.
 use mathlib.Core.Path.{_≡_, sym, _∙_}
 use mathlib.Core.Bool.{Bool, true, false, not}
 use borrow.Author.Tests.{not-true, not-false}

@@ -1,4 +1,4 @@
--- A caller's clock, by document 01: 'whole minutes since 1970, at most 4,294,924,095'. Assumes nothing.
+-- A caller's clock, by document 01: 'whole minutes since 1970, at most 4,294,924,095'.
 use Prim.Native.Nat.{ℕ}
 use mathlib.Core.Bool.{cond}
 use lib.Dec.{leb}

@@ -5,8 +5,8 @@ ghost use mathlib.Core.Path.{_≡_};
 ghost use Prim.Native.Nat.{_<_};
 ghost use lib.ListN.{length};
 ghost use Rattle.octets.specs.Octets.{part};
-ghost use Rattle.pin_model.specs.Layout.{areaLength};
-ghost use Rattle.pin_model.specs.Sound.{latestIn, ofTwo, keySlot, nameSlot, isUsed, keyIn, keyNumber, nameLength, initialIn, endIn, nameIn, refersTo};
+ghost use Rattle.pin_model.specs.Layout.{areaLength, latestIn, ofTwo, keySlot, nameSlot, isUsed, keyIn, keyNumber, nameLength, initialIn, endIn, nameIn};
+ghost use Rattle.pin_model.specs.Sound.{refersTo};
 
 pub const KEY_SLOTS: usize = 64;
 
@@ -15,20 +15,37 @@ pub const NAME_SLOTS: usize = 128;
 // Used 0/1; floor; six zeros; key 64.
 pub const KEY_SLOT_LENGTH: usize = 72;
 
+pub const FLOOR_AT: usize = 1;
+
+pub const KEY_AT: usize = 8;
+
 // Used 0/1; key slot number; name length; end present 0/1; initial 4; end 4; four zeros; name, and zeros up to 256.
 pub const NAME_SLOT_LENGTH: usize = 272;
+
+const KEY_NUMBER_AT: usize = 1;
+
+const NAME_LENGTH_AT: usize = 2;
+
+pub const END_PRESENT_AT: usize = 3;
+
+const INITIAL_AT: usize = 4;
+
+pub const END_AT: usize = 8;
+
+pub const UNUSED_AT: usize = 12;
+
+pub const NAME_AT: usize = 16;
 
 // The latest clock 4, the edition 0/1, three zeros; the key slots; the name slots: 39,432 bytes.
 pub const AREA_LENGTH: usize = NAME_SLOTS_AT + NAME_SLOTS * NAME_SLOT_LENGTH;
 
-const KEY_SLOTS_AT: usize = 8;
+pub const LATEST_AT: usize = 0;
 
-const NAME_SLOTS_AT: usize = KEY_SLOTS_AT + KEY_SLOTS * KEY_SLOT_LENGTH;
+pub const EDITION_AT: usize = 4;
 
-// The key's place in its slot, and the name's.
-pub const KEY_AT: usize = 8;
+pub const KEY_SLOTS_AT: usize = 8;
 
-pub const NAME_AT: usize = 16;
+pub const NAME_SLOTS_AT: usize = KEY_SLOTS_AT + KEY_SLOTS * KEY_SLOT_LENGTH;
 
 // Slot numbers: two kinds, so that a key slot can't index the names.
 pub struct KeySlot(pub usize);
@@ -46,7 +63,7 @@ pub fn latest(area: &[u8]) -> Minutes
     requires { ⌜ length (now area) ≡ areaLength ⌝ }
     ensures { λ r. ⌜ r .0 ≡ latestIn (now (area .entry)) ⌝ }
 {
-    minutes::minutes_at(area, 0)
+    minutes::minutes_at(area, LATEST_AT)
 }
 
 // Whether the table is of edition two.
@@ -54,7 +71,7 @@ pub fn is_two(area: &[u8]) -> bool
     requires { ⌜ length (now area) ≡ areaLength ⌝ }
     ensures { λ r. ⌜ r ≡ ofTwo (now (area .entry)) ⌝ }
 {
-    area[4] == 1
+    area[EDITION_AT] == 1
 }
 
 pub fn key_slot(area: &[u8], k: KeySlot) -> &[u8]
@@ -98,28 +115,28 @@ pub fn key_number(s: &[u8]) -> KeySlot
     requires { ⌜ length (now s) ≡ 272 ⌝ }
     ensures { λ r. ⌜ (r .0 ≡ keyNumber (now (s .entry))) × (r .0 < 256) ⌝ }
 {
-    KeySlot(wide(s[1]))
+    KeySlot(wide(s[KEY_NUMBER_AT]))
 }
 
 pub fn name_length(s: &[u8]) -> usize
     requires { ⌜ length (now s) ≡ 272 ⌝ }
     ensures { λ r. ⌜ (r ≡ nameLength (now (s .entry))) × (r < 256) ⌝ }
 {
-    wide(s[2])
+    wide(s[NAME_LENGTH_AT])
 }
 
 pub fn initial(s: &[u8]) -> Minutes
     requires { ⌜ length (now s) ≡ 272 ⌝ }
     ensures { λ r. ⌜ r .0 ≡ initialIn (now (s .entry)) ⌝ }
 {
-    minutes::minutes_at(s, 4)
+    minutes::minutes_at(s, INITIAL_AT)
 }
 
 pub fn end(s: &[u8]) -> Minutes
     requires { ⌜ length (now s) ≡ 272 ⌝ }
     ensures { λ r. ⌜ r .0 ≡ endIn (now (s .entry)) ⌝ }
 {
-    minutes::minutes_at(s, 8)
+    minutes::minutes_at(s, END_AT)
 }
 
 pub fn name(s: &[u8]) -> &[u8]

@@ -1,8 +1,8 @@
--- One field at a place of the bytes: where it ends, and what it holds. Assumes nothing.
+-- One field at a place of the bytes: where it ends, and what it holds.
 use mathlib.Core.Path.{_≡_, refl, sym, ap, subst, _∙_}
 use mathlib.Core.Logic.{⊎-elim}
-use mathlib.Core.Bool.{Bool, true, false, cond, _&&_}
-use mathlib.Core.List.{List, [], _∷_, _++_}
+use mathlib.Core.Bool.{false, cond, _&&_}
+use mathlib.Core.List.{List, [], _∷_}
 use Prim.Native.Nat.{ℕ, _+_, _-_, _≤_, _<_}
 use native.Mathlib.Nat.{add-zero}
 use native.Mathlib.Omega.{arith}
@@ -15,7 +15,7 @@ use borrow.Author.Tests.{le-leb, lt-leb, lt-ltb, le-ltb, eq-eqb, ne-eqb, leb-tru
 use Rattle.octets.specs.Octets.{part, number}
 use Rattle.octets.proofs.Parts.{part-at}
 use Rattle.octets.proofs.Tests.{byTest, and-left, and-right, below-or}
-use Rattle.tack_extension.proofs.Steps.{clash}
+use Rattle.octets.proofs.Options.{clash}
 use Rattle.recorded_call.specs.RecordedCall.{Front, taken, cutOff, bad, andThen, field, answersField, tagged}
 use Rattle.recorded_call.specs.FieldEnds.{fieldEnd, behind, stoppedBy}
 use Rattle.recorded_call.specs.declared.reader.Taken.{Taken}
@@ -24,7 +24,7 @@ use Rattle.recorded_call.specs.declared.field.Field.{Field}
 use Rattle.recorded_call.specs.declared.field.Field.the-variants as end
 
 -- a field by its three answers
-pub byFront : {P A : Type 0} (x : Front A) → ((a : A) (rest : List ℕ) → x ≡ taken a rest → P) → (x ≡ cutOff → P) → (x ≡ bad → P) → P
+byFront : {P A : Type 0} (x : Front A) → ((a : A) (rest : List ℕ) → x ≡ taken a rest → P) → (x ≡ cutOff → P) → (x ≡ bad → P) → P
 byFront (taken a rest) f g h = f a rest refl
 byFront cutOff f g h = g refl
 byFront bad f g h = h refl
@@ -50,7 +50,7 @@ module _ (tag least most at : ℕ) (s : List ℕ) where
   pub at-short : length s < at + 3 → field tag least most (drop at s) ≡ cutOff
   at-short h = field-short tag least most (drop at s) (omega (arith, length-drop at s))
 
-  pub at-long : (n : ℕ) → at + 3 ≤ length s → n ≡ number (part s (at + 1) 2)
+  at-long : (n : ℕ) → at + 3 ≤ length s → n ≡ number (part s (at + 1) 2)
       → field tag least most (drop at s)
       ≡ cond (eqb (getD s at 0) tag && (leb least n && leb n most))
       (cond (leb n (length (drop (at + 3) s))) (taken (take n (drop (at + 3) s)) (drop (at + 3 + n) s)) cutOff) bad
@@ -60,6 +60,30 @@ module _ (tag least most at : ℕ) (s : List ℕ) where
       let same : n ≡ number (take 2 (drop 1 (drop at s))) = e ∙ ap (λ (l : List ℕ). number (take 2 l)) (sym (drop-drop 1 at s)) in
       let first : getD (drop at s) 0 0 ≡ getD s at 0 = getD-drop at s 0 0 ∙ ap (λ (k : ℕ). getD s k 0) (add-zero at) in
       rw (← first, ← (drop-drop n (at + 3) s), ← (drop-drop 3 at s)) (field-long tag least most (drop at s) n size same)
+
+  -- by its answers, with what the length n of the value, or that of s, is known to be
+  by-field : {P : Type 0}
+      → ((n : ℕ) → least ≤ n → n ≤ most → at + 3 + n ≤ length s
+      → field tag least most (drop at s) ≡ taken (take n (drop (at + 3) s)) (drop (at + 3 + n) s) → P)
+      → (length s < at + 3 + most → field tag least most (drop at s) ≡ cutOff → P)
+      → (field tag least most (drop at s) ≡ bad → P) → P
+  by-field read short wrong =
+      ⊎-elim
+      (λ few. short (omega arith) (at-short few))
+      (λ many.
+      let n = number (part s (at + 1) 2) in
+      let x = at-long n many refl in
+      let size = length-drop (at + 3) s in
+      byTest (eqb (getD s at 0) tag && (leb least n && leb n most))
+      (λ good.
+      let bounds = and-right (eqb (getD s at 0) tag) (leb least n && leb n most) good in
+      let l : least ≤ n = leb-true least n (and-left (leb least n) (leb n most) bounds) in
+      let m : n ≤ most = leb-true n most (and-right (leb least n) (leb n most) bounds) in
+      byTest (leb n (length (drop (at + 3) s)))
+      (λ enough. let k : n ≤ length (drop (at + 3) s) = leb-true n _ enough in read n l m (omega arith) (x ∙ simp (good, enough)))
+      (λ few. let k : length (drop (at + 3) s) < n = leb-false n _ few in short (omega arith) (x ∙ simp (good, few))))
+      (λ e. wrong (x ∙ simp e)))
+      (below-or (length s) (at + 3))
 
   -- where it ends, by the tests that the code makes
   module _ (n : ℕ) (h : at + 3 ≤ length s) (e : n ≡ number (part s (at + 1) 2)) where
@@ -95,31 +119,15 @@ pub ended : (tag least most at e : ℕ) (s : List ℕ) → fieldEnd at (field ta
     → Ended s at least most e (field tag least most (drop at s))
 unfolding part
 ended tag least most at e s h =
-    ⊎-elim
-    (λ few. let k : end.CutOff ≡ end.Ends e = simp (at-short tag least most at s few) at h in clash (cc))
-    (λ many.
-    let n = number (part s (at + 1) 2) in
-    let x = at-long tag least most at s n many refl in
-    byTest (eqb (getD s at 0) tag && (leb least n && leb n most))
-    (λ good. byTest (leb n (length (drop (at + 3) s)))
-    (λ enough.
-    let bounds = and-right (eqb (getD s at 0) tag) (leb least n && leb n most) good in
-    let l : least ≤ n = leb-true least n (and-left (leb least n) (leb n most) bounds) in
-    let m : n ≤ most = leb-true n most (and-right (leb least n) (leb n most) bounds) in
-    let k : n ≤ length (drop (at + 3) s) = leb-true n (length (drop (at + 3) s)) enough in
-    let f : field tag least most (drop at s) ≡ taken (take n (drop (at + 3) s)) (drop (at + 3 + n) s) = x ∙ simp (good, enough) in
+    by-field tag least most at s
+    (λ n l m k f.
+    let fits : n ≤ length (drop (at + 3) s) = omega (arith, length-drop (at + 3) s) in
     let size : at + 3 + n ≡ e =
-    ends-same (ap (λ (i : ℕ). end.Ends (at + 3 + i)) (sym (length-take-le n (drop (at + 3) s) k)) ∙ ap (fieldEnd at) (sym f) ∙ h) in
+    ends-same (ap (λ (i : ℕ). end.Ends (at + 3 + i)) (sym (length-take-le n (drop (at + 3) s) fits)) ∙ ap (fieldEnd at) (sym f) ∙ h) in
     let back : e - (at + 3) ≡ n = omega arith in
-    record {
-      low = omega arith;
-      high = omega arith;
-      within = omega (arith, length-drop (at + 3) s);
-      holds = rw (back, ← size) f;
-    })
-    (λ few. let k : end.CutOff ≡ end.Ends e = simp (x, good, few) at h in clash (cc)))
-    (λ wrong. let k : end.Bad ≡ end.Ends e = simp (x, wrong) at h in clash (cc)))
-    (below-or (length s) (at + 3))
+    record { low = omega arith; high = omega arith; within = omega arith; holds = rw (back, ← size) f })
+    (λ few f. let k : end.CutOff ≡ end.Ends e = simp f at h in clash (cc))
+    (λ f. let k : end.Bad ≡ end.Ends e = simp f at h in clash (cc))
   where
     ends-same : {i j : ℕ} → end.Ends i ≡ end.Ends j → i ≡ j
     ends-same e = cc
@@ -127,22 +135,10 @@ ended tag least most at e s h =
 -- a field that is cut off at a place of s
 pub cut-short : (tag least most at : ℕ) (s : List ℕ) → field tag least most (drop at s) ≡ cutOff → length s < at + 3 + most
 cut-short tag least most at s h =
-    ⊎-elim (λ few. omega arith)
-    (λ many.
-    let n = number (part s (at + 1) 2) in
-    let x = at-long tag least most at s n many refl in
-    byTest (eqb (getD s at 0) tag && (leb least n && leb n most))
-    (λ good. byTest (leb n (length (drop (at + 3) s)))
-    (λ enough.
-    let k : taken (take n (drop (at + 3) s)) (drop (at + 3 + n) s) ≡ cutOff = simp (x, good, enough) at h in
-    clash (cc))
-    (λ few.
-    let bounds = and-right (eqb (getD s at 0) tag) (leb least n && leb n most) good in
-    let m : n ≤ most = leb-true n most (and-right (leb least n) (leb n most) bounds) in
-    let k : length (drop (at + 3) s) < n = leb-false n (length (drop (at + 3) s)) few in
-    omega (arith, length-drop (at + 3) s)))
-    (λ wrong. let k : bad ≡ cutOff = simp (x, wrong) at h in clash (cc)))
-    (below-or (length s) (at + 3))
+    by-field tag least most at s
+    (λ n l m k f. let d : taken (take n (drop (at + 3) s)) (drop (at + 3 + n) s) ≡ cutOff = sym f ∙ h in clash (cc))
+    (λ few f. few)
+    (λ f. let d : bad ≡ cutOff = sym f ∙ h in clash (cc))
 
 pub answers-cut-short : (at : ℕ) (s : List ℕ) → answersField (drop at s) ≡ cutOff → length s < at + 3 + 2
 answers-cut-short at s h =

@@ -1,14 +1,14 @@
--- The places that the reader finds are those of the recorded call. Assumes nothing.
+-- The places that the reader finds are those of the recorded call.
 use mathlib.Core.Path.{_≡_, refl, sym, ap, subst, _∙_}
 use mathlib.Core.Bool.{Bool, true, false, true≢false}
-use mathlib.Core.List.{List, [], _∷_}
+use mathlib.Core.List.{List}
 use mathlib.Core.Option.{Option, none, some}
 use Prim.Native.Nat.{ℕ, _+_, _-_, _≤_, _<_}
 use native.Mathlib.Omega.{arith}
 use lib.ListN.{length, drop}
 use Rattle.octets.specs.Octets.{part}
 use Rattle.octets.proofs.Tests.{byTest}
-use Rattle.pin_model.specs.Judge.{Connection}
+use Rattle.pin_model.specs.Connection.{Connection}
 use Rattle.recorded_call.specs.RecordedCall.{Front, taken, cutOff, bad, andThen, field, answersField, tagged, extensionField, called, recorded}
 use Rattle.recorded_call.specs.Places.{callAt, extensionAt, takenAt, Ordered, Within}
 use Rattle.recorded_call.specs.FieldEnds.{fieldEnd, behind, endPlaces, extensionPlaces}
@@ -115,7 +115,7 @@ callPlaces s =
     behind (fieldEnd hash (field 4 32 32 (drop hash s))) (λ end.
     extensionPlaces s nameEnd end))))
 
-pub call-right : (s : List ℕ) → Right s (callPlaces s) (recorded s)
+call-right : (s : List ℕ) → Right s (callPlaces s) (recorded s)
 unfolding recorded
 call-right s =
     behind-right s 0 4 4 (field 1 4 4 (drop 0 s)) _ _ (cut-short 1 4 4 0 s) (omega arith) (λ e h. ended 1 4 4 0 e s h) (λ name w₁.

@@ -1,4 +1,4 @@
--- More bytes behind a call that was taken, or that is bad, change nothing in front of them: what a stream needs. Assumes nothing.
+-- More bytes behind a call that was taken, or that is bad, change nothing in front of them: what a stream needs.
 use mathlib.Core.Path.{_≡_, refl}
 use mathlib.Core.Bool.{true, _&&_}
 use mathlib.Core.List.{List, [], _∷_, _++_}
@@ -11,7 +11,7 @@ use lib.Seq.{take-append-le, drop-append-le}
 use borrow.Author.Tests.{leb-true, le-leb}
 use Rattle.octets.specs.Octets.{number}
 use Rattle.octets.proofs.Tests.{byTest}
-use Rattle.pin_model.specs.Judge.{Connection}
+use Rattle.pin_model.specs.Connection.{Connection}
 use Rattle.recorded_call.specs.RecordedCall.{Front, taken, cutOff, bad, andThen, field, answersField, extensionField, called, recorded}
 use Rattle.recorded_call.proofs.Taken.{FieldTaken, ExtensionTaken, call-parts}
 

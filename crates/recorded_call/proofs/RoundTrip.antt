@@ -1,4 +1,4 @@
--- Reading and writing a recorded call are each other's inverse. Assumes nothing.
+-- Reading and writing a recorded call are each other's inverse.
 use mathlib.Core.Path.{_≡_, refl, sym, ap, ap₂, _∙_}
 use mathlib.Core.Bool.{Bool, true, false, cond}
 use mathlib.Core.List.{List, [], _∷_, _++_, append-assoc}
@@ -13,11 +13,13 @@ use borrow.Author.Tests.{le-leb, eq-eqb}
 use Rattle.octets.specs.Octets.{part, number, bigEndian}
 use Rattle.octets.proofs.Numbers.{Bytes, bytes-front, bytes-behind, number-bigEndian, bigEndian-number, bigEndian-two, bigEndian-length, number-four}
 use Rattle.host_name.specs.Folding.{foldedName}
-use Rattle.pin_model.specs.Judge.{Connection, connection, partsOf, tackShown, enabled, breaksShown, brokenKeys, judged, noRoom, verdict}
-use Rattle.pin_model.specs.Calls.{judge, folded, refusal, answer, areaAfter}
-use Rattle.recorded_call.specs.RecordedCall.{Front, taken, andThen, field, answersField, extensionField, yes, called, recorded, fieldBytes, answerByte, extensionBytes, callBytes, recordable}
+use Rattle.pin_model.specs.declared.Checks.{Checks}
+use Rattle.pin_model.specs.Connection.{Connection, connection, checksBy, partsOf, tackShown, enabled, breaksShown, brokenKeys}
+use Rattle.pin_model.specs.Judge.{judged, noRoom, verdict}
+use Rattle.pin_model.specs.Calls.{judge, refusal, answer, areaAfter, answered, areaLeft}
+use Rattle.recorded_call.specs.RecordedCall.{Front, taken, andThen, field, answersField, extensionField, checksOf, called, recorded, fieldBytes, answerByte, extensionBytes, callBytes, recordable}
 use Rattle.recorded_call.proofs.Bytes.{field-length, sizes}
-use Rattle.recorded_call.proofs.Taken.{FieldTaken, field-parts, ExtensionTaken, call-parts}
+use Rattle.recorded_call.proofs.Taken.{FieldTaken, ExtensionTaken, call-parts}
 
 -- one field written and read back
 field-at : (tag least most h l : ℕ) (v rest : List ℕ) → number (h ∷ l ∷ []) ≡ length v → least ≤ length v → length v ≤ most
@@ -28,7 +30,7 @@ field-at tag least most h l v rest m above below =
     rw m (simp (eq-eqb tag tag refl, le-leb least (length v) above, le-leb (length v) most below, le-leb (length v) (length (v ++ rest)) fits)
     (rw (take-append-seam, drop-append-seam)))
 
-pub field-back : (tag least most : ℕ) (v rest : List ℕ) → least ≤ length v → length v ≤ most → most < 65536
+field-back : (tag least most : ℕ) (v rest : List ℕ) → least ≤ length v → length v ≤ most → most < 65536
     → field tag least most (fieldBytes tag v ++ rest) ≡ taken v rest
 field-back tag least most v rest above below small =
     let d = bigEndian-two (length v) in
@@ -36,33 +38,35 @@ field-back tag least most v rest above below small =
     ap (λ (l : List ℕ). field tag least most (tag ∷ ((l ++ v) ++ rest))) d
     ∙ field-at tag least most (length v / 256 % 256) (length v % 256) v rest m above below
 
--- the answers' three bits
-abbrev answersOf : Bool → Bool → Bool → ℕ → List ℕ
-answersOf finished point correct bits = answerByte finished point correct ∷ bits ∷ []
+-- the answers, as two bytes and back
+abbrev answersOf : Checks → List ℕ
+answersOf checks = answerByte checks ∷ checks .«breaks_correct» ∷ []
 
 bits-back : (finished point correct : Bool) (bits : ℕ)
-    → (yes 1 (answersOf finished point correct bits) ≡ finished) × (yes 2 (answersOf finished point correct bits) ≡ point)
-    × (yes 4 (answersOf finished point correct bits) ≡ correct) × (ltb (answerByte finished point correct) 8 ≡ true)
-bits-back true true true bits = (refl, refl, refl, refl)
-bits-back true true false bits = (refl, refl, refl, refl)
-bits-back true false true bits = (refl, refl, refl, refl)
-bits-back true false false bits = (refl, refl, refl, refl)
-bits-back false true true bits = (refl, refl, refl, refl)
-bits-back false true false bits = (refl, refl, refl, refl)
-bits-back false false true bits = (refl, refl, refl, refl)
-bits-back false false false bits = (refl, refl, refl, refl)
+    → (checksOf (answersOf (checksBy finished point correct bits)) ≡ checksBy finished point correct bits)
+    × (ltb (answerByte (checksBy finished point correct bits)) 8 ≡ true)
+bits-back true true true bits = (refl, refl)
+bits-back true true false bits = (refl, refl)
+bits-back true false true bits = (refl, refl)
+bits-back true false false bits = (refl, refl)
+bits-back false true true bits = (refl, refl)
+bits-back false true false bits = (refl, refl)
+bits-back false false true bits = (refl, refl)
+bits-back false false false bits = (refl, refl)
+
+checks-back : (checks : Checks) → (checksOf (answersOf checks) ≡ checks) × (ltb (answerByte checks) 8 ≡ true)
+checks-back checks = bits-back (checks .«handshake_finished») (checks .«key_is_point») (checks .«signature_correct») (checks .«breaks_correct»)
 
 -- what comes second, once what comes first is taken
 then-back : {A B : Type 0} (x : Front A) (next : A → List ℕ → Front B) {a : A} {r : List ℕ} {y : Front B} → x ≡ taken a r
     → next a r ≡ y → andThen x next ≡ y
 then-back x next e f = rw e f
 
-answers-back : (finished point correct : Bool) (bits : ℕ) (rest : List ℕ)
-    → answersField (fieldBytes 3 (answersOf finished point correct bits) ++ rest) ≡ taken (answersOf finished point correct bits) rest
-answers-back finished point correct bits rest =
-    then-back (field 3 2 2 (fieldBytes 3 (answersOf finished point correct bits) ++ rest)) _
-    (field-back 3 2 2 (answersOf finished point correct bits) rest (omega arith) (omega arith) (omega arith))
-    (simp (bits-back finished point correct bits .3))
+answers-back : (checks : Checks) (rest : List ℕ) → answersField (fieldBytes 3 (answersOf checks) ++ rest) ≡ taken (answersOf checks) rest
+answers-back checks rest =
+    then-back (field 3 2 2 (fieldBytes 3 (answersOf checks) ++ rest)) _
+    (field-back 3 2 2 (answersOf checks) rest (omega arith) (omega arith) (omega arith))
+    (simp (checks-back checks .1))
 
 -- an extension that came, or its absence in front of the end
 abbrev sent : Bool → List ℕ → Option (List ℕ)
@@ -77,16 +81,15 @@ extension-back true e rest h =
 extension-back false e rest h = refl
 
 -- the connection as a recording tells it: 'If no extension came, its bytes are ignored'
-abbrev pub asHeard : Connection → Connection
-asHeard c =
-    connection (c .clock) (c .name) (c .extensionCame) (cond (c .extensionCame) (c .extension) []) (c .hash)
-    (c .handshakeFinished) (c .keyIsPoint) (c .signatureCorrect) (c .breaksCorrect)
+abbrev pub asRecorded : Connection → Connection
+asRecorded c =
+    connection (c .clock) (c .name) (c .extensionCame) (cond (c .extensionCame) (c .extension) []) (c .hash) (c .checks)
 
-called-heard : (clock name answers hash : List ℕ) (came : Bool) (e : List ℕ)
+called-recorded : (clock name answers hash : List ℕ) (came : Bool) (e : List ℕ)
     → called clock name answers hash (sent came e)
-    ≡ connection (number clock) name came (cond came e []) hash (yes 1 answers) (yes 2 answers) (yes 4 answers) (getD answers 1 0)
-called-heard clock name answers hash true e = refl
-called-heard clock name answers hash false e = refl
+    ≡ connection (number clock) name came (cond came e []) hash (checksOf answers)
+called-recorded clock name answers hash true e = refl
+called-recorded clock name answers hash false e = refl
 
 -- the six fields, and what stands behind them
 abbrev six : List ℕ → List ℕ → List ℕ → List ℕ → List ℕ → List ℕ
@@ -103,12 +106,12 @@ six-behind clock name answers hash extension rest =
     regroup (fieldBytes 1 clock) (fieldBytes 2 name) (fieldBytes 3 answers) (fieldBytes 4 hash) extension (fieldBytes 6 []) rest
 
 -- whatever can be recorded reads back, in front of any bytes
-pub reads-back : (c : Connection) (rest : List ℕ) → recordable c ≡ true → recorded (callBytes c ++ rest) ≡ taken (asHeard c) rest
+pub reads-back : (c : Connection) (rest : List ℕ) → recordable c ≡ true → recorded (callBytes c ++ rest) ≡ taken (asRecorded c) rest
 unfolding recorded callBytes
 reads-back c rest h =
     let w = sizes c h in
     let clock : List ℕ = bigEndian 4 (c .clock) in
-    let answers : List ℕ = answersOf (c .handshakeFinished) (c .keyIsPoint) (c .signatureCorrect) (c .breaksCorrect) in
+    let answers : List ℕ = answersOf (c .checks) in
     let extension : List ℕ = extensionBytes (c .extensionCame) (c .extension) in
     let s₅ : List ℕ = fieldBytes 6 [] ++ rest in
     let s₄ : List ℕ = extension ++ s₅ in
@@ -117,31 +120,29 @@ reads-back c rest h =
     let s₁ : List ℕ = fieldBytes 2 (c .name) ++ s₂ in
     let four = bigEndian-length 4 (c .clock) in
     let same = number-bigEndian 4 (c .clock) (omega (arith, w .clock)) in
-    let bits = bits-back (c .handshakeFinished) (c .keyIsPoint) (c .signatureCorrect) (c .breaksCorrect) in
     ap recorded (six-behind clock (c .name) answers (c .hash) extension rest)
     ∙ then-back (field 1 4 4 (fieldBytes 1 clock ++ s₁)) _ (field-back 1 4 4 clock s₁ (omega arith) (omega arith) (omega arith))
     (then-back (field 2 0 300 s₁) _ (field-back 2 0 300 (c .name) s₂ (omega arith) (w .name) (omega arith))
-    (then-back (answersField s₂) _ (answers-back (c .handshakeFinished) (c .keyIsPoint) (c .signatureCorrect) (c .breaksCorrect) s₃)
+    (then-back (answersField s₂) _ (answers-back (c .checks) s₃)
     (then-back (field 4 32 32 s₃) _ (field-back 4 32 32 (c .hash) s₄ (omega (arith, w .hash)) (omega (arith, w .hash)) (omega arith))
     (then-back (extensionField s₄) _ (extension-back (c .extensionCame) (c .extension) rest (w .extension))
     (then-back (field 6 0 0 s₅) _ (field-back 6 0 0 [] rest (omega arith) (omega arith) (omega arith))
     (ap (λ (k : Connection). taken k rest)
-    (called-heard clock (c .name) answers (c .hash) (c .extensionCame) (c .extension) ∙ rw (same, bits .0, bits .1, bits .2) refl)))))))
+    (called-recorded clock (c .name) answers (c .hash) (c .extensionCame) (c .extension) ∙ rw (same, checks-back (c .checks) .0) refl)))))))
 
 -- what is recorded is judged as the connection itself would be: an extension that did not come has no parts, whatever its bytes
-heard-by : (clock : ℕ) (name : List ℕ) (came : Bool) (extension hash : List ℕ) (finished point correct : Bool) (bits : ℕ) (area : List ℕ)
-    → let c = connection clock name came extension hash finished point correct bits in
-    (answer (judge (asHeard c)) area ≡ answer (judge c) area) × (areaAfter (judge (asHeard c)) area ≡ areaAfter (judge c) area)
+recorded-by : (clock : ℕ) (name : List ℕ) (came : Bool) (extension hash : List ℕ) (checks : Checks) (area : List ℕ)
+    → let c = connection clock name came extension hash checks in
+    (answer (judge (asRecorded c)) area ≡ answer (judge c) area) × (areaAfter (judge (asRecorded c)) area ≡ areaAfter (judge c) area)
 unfolding answer areaAfter refusal judged noRoom verdict tackShown enabled breaksShown brokenKeys partsOf
-heard-by clock name true extension hash finished point correct bits area = (refl, refl)
-heard-by clock name false extension hash finished point correct bits area = (refl, refl)
+recorded-by clock name true extension hash checks area = (refl, refl)
+recorded-by clock name false extension hash checks area = (refl, refl)
 
-pub heard-same : (c : Connection) (area : List ℕ)
-    → (answer (folded (judge (asHeard c))) area ≡ answer (folded (judge c)) area)
-    × (areaAfter (folded (judge (asHeard c))) area ≡ areaAfter (folded (judge c)) area)
-heard-same c area =
-    heard-by (c .clock) (foldedName (c .name)) (c .extensionCame) (c .extension) (c .hash) (c .handshakeFinished) (c .keyIsPoint)
-    (c .signatureCorrect) (c .breaksCorrect) area
+pub recorded-same : (c : Connection) (area : List ℕ)
+    → (answered (judge (asRecorded c)) area ≡ answered (judge c) area) × (areaLeft (judge (asRecorded c)) area ≡ areaLeft (judge c) area)
+unfolding answered areaLeft
+recorded-same c area =
+    recorded-by (c .clock) (foldedName (c .name)) (c .extensionCame) (c .extension) (c .hash) (c .checks) area
 
 -- one field read and written back; its value and what is behind it are bytes again
 pub record FieldBytes (tag least most : ℕ) (s v r : List ℕ) : Type 0 where
@@ -166,9 +167,6 @@ field-bytes tag least most s v r byte f =
       behind = bytes-behind v r tail;
     }
 
-pub field-taken : (tag least most : ℕ) (s v r : List ℕ) → Bytes s → field tag least most s ≡ taken v r → FieldBytes tag least most s v r
-field-taken tag least most s v r byte h = field-bytes tag least most s v r byte (field-parts tag least most s v r h)
-
 -- the clock, the answers and the extension written back
 clock-small : (b : List ℕ) → length b ≡ 4 → Bytes b → number b ≤ 4294967295
 unfolding part
@@ -185,7 +183,7 @@ bit zero value h = omega arith
 bit (suc zero) value h = omega arith
 bit (suc (suc n)) value h = absurd (omega arith)
 
-answers-bytes : (a : List ℕ) → length a ≡ 2 → getD a 0 0 < 8 → answersOf (yes 1 a) (yes 2 a) (yes 4 a) (getD a 1 0) ≡ a
+answers-bytes : (a : List ℕ) → length a ≡ 2 → getD a 0 0 < 8 → answersOf (checksOf a) ≡ a
 answers-bytes [] size h = absurd (omega arith)
 answers-bytes (x ∷ []) size h = absurd (omega arith)
 answers-bytes (x ∷ y ∷ z ∷ s) size h = absurd (omega arith)
@@ -195,7 +193,7 @@ answers-bytes (x ∷ y ∷ []) size h =
     let b₂ = bit (x / 4 % 2) 4 (omega arith) in
     let four : x / 2 / 2 ≡ x / 4 = div-div-eq-div-mul x 2 2 in
     let high : x / 4 % 2 ≡ x / 4 = mod-eq-of-lt (omega arith) in
-    let e : answerByte (yes 1 (x ∷ y ∷ [])) (yes 2 (x ∷ y ∷ [])) (yes 4 (x ∷ y ∷ [])) ≡ x =
+    let e : answerByte (checksOf (x ∷ y ∷ [])) ≡ x =
     omega (arith, div-add-mod x 2, div-add-mod (x / 2) 2) in
     rw e refl
 
@@ -209,7 +207,7 @@ extension-bytes s (some v) r byte f = let w = field-bytes 5 0 4096 s v r byte f 
 
 module _ (clock name answers hash : List ℕ) where
   called-bytes : (o : Option (List ℕ)) → bigEndian 4 (number clock) ≡ clock
-      → answersOf (yes 1 answers) (yes 2 answers) (yes 4 answers) (getD answers 1 0) ≡ answers
+      → answersOf (checksOf answers) ≡ answers
       → callBytes (called clock name answers hash o) ≡ six clock name answers hash (sentBytes o)
   unfolding callBytes
   called-bytes none e f = ap₂ (λ (k a : List ℕ). six k name a hash []) e f

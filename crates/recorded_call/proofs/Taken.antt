@@ -1,4 +1,4 @@
--- What stands in front of bytes from which a field, and from which a call, is taken. Assumes nothing.
+-- What stands in front of bytes from which a field, and from which a call, is taken.
 use mathlib.Core.Path.{_≡_, refl, sym}
 use mathlib.Core.Bool.{cond, _&&_}
 use mathlib.Core.List.{List, [], _∷_, _++_}
@@ -11,18 +11,18 @@ use lib.Seq.{length-take-le}
 use borrow.Author.Tests.{leb-true, ltb-true, eqb-true}
 use Rattle.octets.specs.Octets.{number}
 use Rattle.octets.proofs.Tests.{byTest, and-left, and-right}
-use Rattle.tack_extension.proofs.Steps.{clash}
-use Rattle.pin_model.specs.Judge.{Connection}
+use Rattle.octets.proofs.Options.{clash}
+use Rattle.pin_model.specs.Connection.{Connection}
 use Rattle.recorded_call.specs.RecordedCall.{Front, taken, cutOff, bad, andThen, field, answersField, tagged, extensionField, called, recorded}
 
-pub never-cut : {P A : Type 0} {a : A} {r : List ℕ} → cutOff ≡ taken a r → P
+never-cut : {P A : Type 0} {a : A} {r : List ℕ} → cutOff ≡ taken a r → P
 never-cut e = clash (cc)
 
-pub never-bad : {P A : Type 0} {a : A} {r : List ℕ} → bad ≡ taken a r → P
+never-bad : {P A : Type 0} {a : A} {r : List ℕ} → bad ≡ taken a r → P
 never-bad e = clash (cc)
 
 -- what comes second is taken from behind what comes first
-pub then-taken : {P A B : Type 0} (x : Front A) (next : A → List ℕ → Front B) {b : B} {r : List ℕ} → andThen x next ≡ taken b r
+then-taken : {P A B : Type 0} (x : Front A) (next : A → List ℕ → Front B) {b : B} {r : List ℕ} → andThen x next ≡ taken b r
     → ((a : A) (q : List ℕ) → x ≡ taken a q → next a q ≡ taken b r → P) → P
 then-taken (taken a q) next h f = f a q refl h
 then-taken cutOff next h f = never-cut h
@@ -37,7 +37,7 @@ pub record FieldTaken (tag least most : ℕ) (s v r : List ℕ) : Type 0 where
   pub upper : length v ≤ most
   pub bytes : s ≡ tag ∷ high ∷ low ∷ (v ++ r)
 
-pub field-parts : (tag least most : ℕ) (s v r : List ℕ) → field tag least most s ≡ taken v r → FieldTaken tag least most s v r
+field-parts : (tag least most : ℕ) (s v r : List ℕ) → field tag least most s ≡ taken v r → FieldTaken tag least most s v r
 unfolding field
 field-parts tag least most [] v r h = never-cut h
 field-parts tag least most (t ∷ []) v r h = never-cut h
@@ -66,7 +66,7 @@ field-parts tag least most (t ∷ x ∷ y ∷ s) v r h =
     (λ e. never-bad (simp e at h))
 
 -- the answers, and the extension where one came
-pub answers-parts : (s v r : List ℕ) → answersField s ≡ taken v r → FieldTaken 3 2 2 s v r × (getD v 0 0 < 8)
+answers-parts : (s v r : List ℕ) → answersField s ≡ taken v r → FieldTaken 3 2 2 s v r × (getD v 0 0 < 8)
 answers-parts s v r h =
     then-taken (field 3 2 2 s) (λ answers rest. cond (ltb (getD answers 0 0) 8) (taken answers rest) bad) h
     (λ a q e k.
@@ -82,7 +82,7 @@ abbrev pub ExtensionTaken : List ℕ → Option (List ℕ) → List ℕ → Type
 ExtensionTaken s none r = s ≡ r
 ExtensionTaken s (some e) r = FieldTaken 5 0 4096 s e r
 
-pub extension-parts : (s : List ℕ) (o : Option (List ℕ)) (r : List ℕ) → extensionField s ≡ taken o r → ExtensionTaken s o r
+extension-parts : (s : List ℕ) (o : Option (List ℕ)) (r : List ℕ) → extensionField s ≡ taken o r → ExtensionTaken s o r
 extension-parts s o r h =
     byTest (tagged 5 s)
     (λ e.

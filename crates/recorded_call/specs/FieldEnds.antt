@@ -1,5 +1,5 @@
 -- Where the reader's steps end in the caller's bytes. Cited by private functions alone: a reader of the open contracts can skip
--- this file. Assumes nothing.
+-- this file.
 use Prim.Native.Nat.{ℕ, _+_}
 use mathlib.Core.Bool.{Bool, true, false, cond}
 use mathlib.Core.List.{List}

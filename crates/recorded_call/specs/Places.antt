@@ -1,12 +1,12 @@
--- Where the parts of a recorded call lie in the caller's bytes. Assumes nothing.
+-- Where the parts of a recorded call lie in the caller's bytes.
 use Prim.Native.Nat.{ℕ, _+_, _-_, _≤_, _<_}
 use mathlib.Core.Bool.{Bool, true, false}
 use mathlib.Core.Path.{_≡_}
 use mathlib.Core.List.{List, []}
-use lib.ListN.{length, getD, drop}
+use lib.ListN.{length, drop}
 use Rattle.octets.specs.Octets.{part, number}
-use Rattle.pin_model.specs.Judge.{Connection, connection}
-use Rattle.recorded_call.specs.RecordedCall.{Front, taken, cutOff, bad, yes}
+use Rattle.pin_model.specs.Connection.{Connection, connection}
+use Rattle.recorded_call.specs.RecordedCall.{Front, taken, cutOff, bad, checksOf}
 use Rattle.recorded_call.specs.declared.reader.Taken.{Taken}
 use Rattle.recorded_call.specs.declared.reader.Taken.the-variants as call
 
@@ -18,9 +18,8 @@ extensionAt s nameEnd true after = part s (nameEnd + 43) (after - 3 - (nameEnd +
 
 unfoldable pub callAt : List ℕ → ℕ → Bool → ℕ → Connection
 callAt s nameEnd came after =
-    let answers = part s (nameEnd + 3) 2 in
     connection (number (part s 3 4)) (part s 10 (nameEnd - 10)) came (extensionAt s nameEnd came after) (part s (nameEnd + 8) 32)
-    (yes 1 answers) (yes 2 answers) (yes 4 answers) (getD answers 1 0)
+    (checksOf (part s (nameEnd + 3) 2))
 
 -- what an answer of the reader says of the bytes
 abbrev pub takenAt : List ℕ → Taken → Front Connection

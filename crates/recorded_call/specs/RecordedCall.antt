@@ -1,4 +1,4 @@
--- One recorded call in front of a night's bytes, read and written, by document 02, Q-1. Assumes nothing.
+-- One recorded call in front of a night's bytes, read and written, by document 02, Q-1.
 use Prim.Native.Nat.{ℕ, _+_, _/_, _%_}
 use mathlib.Core.Bool.{Bool, true, false, cond, not, _&&_, _||_}
 use mathlib.Core.List.{List, [], _∷_, _++_}
@@ -6,7 +6,8 @@ use mathlib.Core.Option.{Option, none, some}
 use lib.ListN.{length, getD, take, drop}
 use lib.Dec.{leb, ltb, eqb}
 use Rattle.octets.specs.Octets.{bigEndian, number}
-use Rattle.pin_model.specs.Judge.{Connection, connection}
+use Rattle.pin_model.specs.declared.Checks.{Checks}
+use Rattle.pin_model.specs.Connection.{Connection, connection, checksBy}
 
 -- what stands in front of some bytes: a thing, with the bytes behind it; one that is cut off; or a bad one
 pub data Front (A : Type 0) : Type 0 where
@@ -46,11 +47,12 @@ extensionField s =
 abbrev pub yes : ℕ → List ℕ → Bool
 yes power answers = eqb (getD answers 0 0 / power % 2) 1
 
+abbrev pub checksOf : List ℕ → Checks
+checksOf answers = checksBy (yes 1 answers) (yes 2 answers) (yes 4 answers) (getD answers 1 0)
+
 abbrev pub called : List ℕ → List ℕ → List ℕ → List ℕ → Option (List ℕ) → Connection
-called clock name answers hash none =
-    connection (number clock) name false [] hash (yes 1 answers) (yes 2 answers) (yes 4 answers) (getD answers 1 0)
-called clock name answers hash (some extension) =
-    connection (number clock) name true extension hash (yes 1 answers) (yes 2 answers) (yes 4 answers) (getD answers 1 0)
+called clock name answers hash none = connection (number clock) name false [] hash (checksOf answers)
+called clock name answers hash (some extension) = connection (number clock) name true extension hash (checksOf answers)
 
 -- 'A call is, in this order: 01 clock (4), 02 name (at most 300), 03 answers, 04 hash (32), optionally 05 extension, 06 end (0).'
 unfoldable pub recorded : List ℕ → Front Connection
@@ -67,8 +69,9 @@ recorded s =
 abbrev pub fieldBytes : ℕ → List ℕ → List ℕ
 fieldBytes tag value = (tag ∷ []) ++ (bigEndian 2 (length value) ++ value)
 
-abbrev pub answerByte : Bool → Bool → Bool → ℕ
-answerByte finished point correct = cond finished 1 0 + (cond point 2 0 + cond correct 4 0)
+abbrev pub answerByte : Checks → ℕ
+answerByte checks =
+    cond (checks .«handshake_finished») 1 0 + (cond (checks .«key_is_point») 2 0 + cond (checks .«signature_correct») 4 0)
 
 -- 'If no extension came, its bytes are ignored' (document 01)
 abbrev pub extensionBytes : Bool → List ℕ → List ℕ
@@ -79,7 +82,7 @@ unfoldable pub callBytes : Connection → List ℕ
 callBytes c =
     fieldBytes 1 (bigEndian 4 (c .clock))
     ++ (fieldBytes 2 (c .name)
-    ++ (fieldBytes 3 (answerByte (c .handshakeFinished) (c .keyIsPoint) (c .signatureCorrect) ∷ c .breaksCorrect ∷ [])
+    ++ (fieldBytes 3 (answerByte (c .checks) ∷ c .checks .«breaks_correct» ∷ [])
     ++ (fieldBytes 4 (c .hash)
     ++ (extensionBytes (c .extensionCame) (c .extension)
     ++ fieldBytes 6 []))))

@@ -1,4 +1,3 @@
-// Recorded calls: one read from the front of a night's bytes, and one written.
+// Recorded calls: one read from the front of a night's bytes.
 mod field;
 pub mod reader;
-pub mod writer;

@@ -1,4 +1,4 @@
--- The loop that moves bytes to the front reads only what it has not yet written over. Assumes nothing.
+-- The loop that moves bytes to the front reads only what it has not yet written over.
 use mathlib.Core.Path.{_≡_, sym, ap, _∙_}
 use mathlib.Core.List.{List}
 use Prim.Native.Nat.{ℕ, _+_, _≤_, _<_}

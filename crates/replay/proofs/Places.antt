@@ -1,4 +1,4 @@
--- Places within the program's buffers, by what the functions below it answer. Assumes nothing.
+-- Places within the program's buffers, by what the functions below it answer.
 use mathlib.Core.Path.{_≡_, subst}
 use mathlib.Core.List.{List}
 use Prim.Native.Nat.{ℕ, _+_, _-_, _≤_, _<_}

@@ -1,16 +1,16 @@
--- What a turn makes of the run so far: a call more, or nothing. Assumes nothing.
+-- What a turn makes of the run so far: a call more, or nothing.
 use mathlib.Core.Path.{_≡_, refl, sym, ap, subst, _∙_}
 use mathlib.Core.Bool.{true, false}
 use mathlib.Core.List.{List, [], _∷_}
 use Prim.Native.Nat.{ℕ, _+_, _-_}
 use native.Mathlib.Omega.{arith}
 use lib.ListN.{take, drop}
+use Rattle.octets.proofs.Options.{clash}
 use Rattle.tally.specs.Tally.{counted, tallied}
-use Rattle.tack_extension.proofs.Steps.{clash}
 use Rattle.pin_model.specs.Sound.{sound}
-use Rattle.pin_model.specs.Judge.{Connection}
-use Rattle.pin_model.specs.Calls.{judge, folded, answer, areaAfter}
-use Rattle.pin_journal.specs.Demand3.{areaOf, numberOf}
+use Rattle.pin_model.specs.Connection.{Connection}
+use Rattle.pin_model.specs.Calls.{judge, answered, areaLeft}
+use Rattle.pin_model.specs.Run.{areaOf, numberOf}
 use Rattle.pin_journal.proofs.Main.{area-sound}
 use Rattle.recorded_call.specs.RecordedCall.{Front, taken, cutOff, bad, recorded}
 use Rattle.night_report.specs.Report.{numbers}
@@ -31,14 +31,14 @@ pub its-tally : {area counts : List ℕ} {index : ℕ} → Reached area index co
 its-tally w = record { calls = w .calls; tally = w .tally }
 
 one-more : {area areaNow counts countsNow : List ℕ} {index : ℕ} (c : Connection) → Reached area index counts
-    → areaNow ≡ areaAfter (folded (judge c)) area → countsNow ≡ counted (answer (folded (judge c)) area .number) counts → Reached areaNow (index + 1) countsNow
+    → areaNow ≡ areaLeft (judge c) area → countsNow ≡ counted (answered (judge c) area .number) counts → Reached areaNow (index + 1) countsNow
 unfolding areaOf numbers numberOf tallied
 one-more {area} {areaNow} {counts} c w e f =
     record {
       calls = judge c ∷ w .calls;
-      left = e ∙ ap (areaAfter (folded (judge c))) (w .left);
+      left = e ∙ ap (areaLeft (judge c)) (w .left);
       number = omega (arith, w .number);
-      tally = f ∙ ap (λ (b : List ℕ). counted (answer (folded (judge c)) b .number) counts) (w .left) ∙ ap (counted (answer (folded (judge c)) (areaOf false (w .calls)) .number)) (w .tally);
+      tally = f ∙ ap (λ (b : List ℕ). counted (answered (judge c) b .number) counts) (w .left) ∙ ap (counted (answered (judge c) (areaOf false (w .calls)) .number)) (w .tally);
     }
 
 -- by the answer of a turn on what stands in front of the bytes between two places

@@ -1,4 +1,4 @@
--- What each turn of the program keeps: places within its two buffers, and the run that it has come through. Assumes nothing.
+-- What each turn of the program keeps: places within its two buffers, and the run that it has come through.
 use mathlib.Core.Path.{_≡_}
 use mathlib.Core.Bool.{false}
 use mathlib.Core.List.{List}
@@ -6,7 +6,7 @@ use Prim.Native.Nat.{ℕ, _+_, _≤_}
 use lib.ListN.{length}
 use Rattle.tally.specs.Tally.{tallied}
 use Rattle.pin_model.specs.Calls.{Call}
-use Rattle.pin_journal.specs.Demand3.{areaOf}
+use Rattle.pin_model.specs.Run.{areaOf}
 use Rattle.night_report.specs.Report.{numbers}
 use Rattle.replay.specs.declared.input.Filled.{Filled}
 use Rattle.replay.specs.declared.input.Filled.the-variants as filled

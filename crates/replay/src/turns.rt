@@ -10,7 +10,7 @@ ghost use mathlib.Core.Bool.{false};
 ghost use mathlib.Core.List.{[]};
 ghost use Prim.Native.Nat.{_+_, _≤_, _<_};
 ghost use lib.ListN.{length};
-ghost use Rattle.pin_journal.specs.Demand3.{areaOf};
+ghost use Rattle.pin_model.specs.Run.{areaOf};
 ghost use Rattle.replay.specs.Progress.{InOrder, Reached, Tallied};
 
 // The text has room for another line up to here: io's large buffer less the longest line.

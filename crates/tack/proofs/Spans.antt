@@ -1,4 +1,4 @@
--- A span cuts out the part that it speaks of. Assumes nothing.
+-- A span cuts out the part that it speaks of.
 use mathlib.Core.Path.{_≡_, refl, sym, ap, _∙_}
 use mathlib.Core.List.{List, [], _∷_, _++_}
 use Prim.Native.Nat.{ℕ, suc, _+_}
@@ -9,8 +9,9 @@ use lib.Seq.{take-append-seam, drop-append-add}
 use borrow.Author.Tests.{eqb-true}
 use Rattle.octets.specs.Octets.{part}
 use Rattle.octets.proofs.Tests.{byTest}
+use Rattle.octets.proofs.Options.{byOption}
 use Rattle.tack_extension.specs.Extension.{parse, tackPart, breaksPart}
-use Rattle.tack_extension.proofs.Steps.{byOption, parsed}
+use Rattle.tack_extension.proofs.Steps.{parsed}
 use Rattle.tack.specs.Extension.{spanOf, breaksStart}
 use Rattle.tack.specs.declared.extension.Span.{Span}
 

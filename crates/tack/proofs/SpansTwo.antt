@@ -1,13 +1,13 @@
--- A span of edition two cuts out the tack that it speaks of. Assumes nothing.
+-- A span of edition two cuts out the tack that it speaks of.
 use mathlib.Core.Path.{_≡_, sym, ap, _∙_, subst}
 use mathlib.Core.Bool.{Bool, true, false}
 use mathlib.Core.List.{List, _∷_, _++_}
 use mathlib.Core.Option.{Option, none, some}
-use Prim.Native.Nat.{ℕ, _+_, _≤_}
+use Prim.Native.Nat.{ℕ, _≤_}
 use lib.ListN.{length, take, drop}
 use lib.Seq.{length-take-le, take-append-le, drop-append-le, take-append-seam}
 use Rattle.octets.specs.Octets.{part}
-use Rattle.tack_extension.proofs.Steps.{byOption}
+use Rattle.octets.proofs.Options.{byOption}
 use Rattle.tack_extension_two.specs.ExtensionTwo.{PartsTwo, parseTwo, partsOrNone}
 use Rattle.tack_extension_two.proofs.GoodTwo.{tacks-between}
 use Rattle.tack_extension_two.proofs.StepsTwo.{ParsedTwo, parsed-two}
@@ -39,20 +39,22 @@ tack-place second s =
     empty true e = subst (λ (o : Option PartsTwo). part s 168 (length (partsOrNone o .second)) ≡ partsOrNone o .second) (sym e) (none-left s 168)
     empty false e = subst (λ (o : Option PartsTwo). part s 2 (length (partsOrNone o .first)) ≡ partsOrNone o .first) (sym e) (none-left s 2)
 
+    cut-at : (at : ℕ) (field : PartsTwo → List ℕ) (p : PartsTwo) → parseTwo s ≡ some p → (w : ParsedTwo s p) {t : List ℕ}
+        → t ≡ field p → part (w .read-tacks .high ∷ (w .read-tacks .low ∷ (w .tacks ++ w .after))) at (length t) ≡ t
+        → part s at (length (field (partsOrNone (parseTwo s)))) ≡ field (partsOrNone (parseTwo s))
+    cut-at at field p e w {t} its h =
+        subst (λ (o : Option PartsTwo). part s at (length (field (partsOrNone o))) ≡ field (partsOrNone o)) (sym e)
+        (subst (λ (x : List ℕ). part s at (length x) ≡ x) its
+        (subst (λ (x : List ℕ). part x at (length t) ≡ t) (w .read-tacks .bytes) h))
+
     go : (second : Bool) (p : PartsTwo) → parseTwo s ≡ some p → (w : ParsedTwo s p) → 166 ≤ length (w .tacks)
         → part s (tackStart second) (length (tackIn second s)) ≡ tackIn second s
     go true p e w long =
-        let its : drop 166 (w .tacks) ≡ p .second = ap (λ (x : PartsTwo). x .second) (w .parts) in
-        subst (λ (o : Option PartsTwo). part s 168 (length (partsOrNone o .second)) ≡ partsOrNone o .second) (sym e)
-        (subst (λ (x : List ℕ). part s 168 (length x) ≡ x) its
-        (subst (λ (x : List ℕ). part x 168 (length (drop 166 (w .tacks))) ≡ drop 166 (w .tacks)) (w .read-tacks .bytes)
-        (second-cut (w .read-tacks .high) (w .read-tacks .low) (w .tacks) (w .after) long)))
+        cut-at 168 (λ x. x .second) p e w (ap (λ (x : PartsTwo). x .second) (w .parts))
+        (second-cut (w .read-tacks .high) (w .read-tacks .low) (w .tacks) (w .after) long)
     go false p e w long =
-        let its : take 166 (w .tacks) ≡ p .first = ap (λ (x : PartsTwo). x .first) (w .parts) in
-        subst (λ (o : Option PartsTwo). part s 2 (length (partsOrNone o .first)) ≡ partsOrNone o .first) (sym e)
-        (subst (λ (x : List ℕ). part s 2 (length x) ≡ x) its
-        (subst (λ (x : List ℕ). part x 2 (length (take 166 (w .tacks))) ≡ take 166 (w .tacks)) (w .read-tacks .bytes)
-        (first-cut (w .read-tacks .high) (w .read-tacks .low) (w .tacks) (w .after) long)))
+        cut-at 2 (λ x. x .first) p e w (ap (λ (x : PartsTwo). x .first) (w .parts))
+        (first-cut (w .read-tacks .high) (w .read-tacks .low) (w .tacks) (w .after) long)
 
 pub span-two : (second asked : Bool) → asked ≡ second → (s : List ℕ) {t : List ℕ} (r : Span) → t ≡ tackIn second s → r ≡ spanOf (tackStart second) (length t)
     → (r ≡ spanOf (tackStart asked) (length (tackIn asked s))) × (part s (r .start) (r .length) ≡ tackIn asked s)

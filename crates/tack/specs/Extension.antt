@@ -1,11 +1,11 @@
--- The answers of the C interface, field by field. Assumes nothing.
+-- The answers of the C interface, field by field.
 use Prim.Native.Nat.{ℕ, _+_}
 use mathlib.Core.Bool.{cond}
 use mathlib.Core.List.{List}
 use lib.ListN.{length}
 use lib.Dec.{eqb}
 use Rattle.tack_extension.specs.declared.reader.Reading.{Reading}
-use Rattle.tack_extension.specs.declared.writer.Writing.{Writing}
+use Rattle.tack_extension.specs.declared.answers.Writing.{Writing}
 use Rattle.tack_extension.specs.Extension.{tackPart}
 use Rattle.tack_extension.specs.Answers.{alertOf, readingNumber, readingActivation, writingNumber, writingBytes}
 use Rattle.tack.specs.declared.extension.ReadingAnswer.{ReadingAnswer}

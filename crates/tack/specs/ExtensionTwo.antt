@@ -1,4 +1,4 @@
--- The answers of the C interface on an extension of edition two, field by field. Assumes nothing.
+-- The answers of the C interface on an extension of edition two, field by field.
 use Prim.Native.Nat.{ℕ}
 use mathlib.Core.Bool.{Bool, true, false}
 use mathlib.Core.List.{List}

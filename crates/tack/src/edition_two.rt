@@ -5,6 +5,7 @@ use crate::extension::Span;
 use crate::extension::WritingAnswer;
 use crate::table::JudgementAnswer;
 use pin_answers::Judgement;
+use pin_model::ChecksTwo;
 use tack_extension_two::reader;
 use tack_extension_two::reader::Reading;
 use tack_extension_two::writer;
@@ -14,11 +15,11 @@ ghost use Rattle.octets.specs.Octets.{part};
 ghost use Rattle.tack_extension.specs.Answers.{writing, output};
 ghost use Rattle.tack_extension_two.specs.ExtensionTwo.{partsIn, goodTwo, bytesOfTwo, parseTwo};
 ghost use Rattle.tack_extension_two.specs.AnswersTwo.{readingTwo};
-ghost use Rattle.pin_model.specs.JudgeTwo.{connectionTwo};
+ghost use Rattle.pin_model.specs.Connection.{connection};
 ghost use Rattle.pin_model.specs.Calls as calls;
 ghost use Rattle.tack.specs.Extension.{spanOf, writingAnswer};
 ghost use Rattle.tack.specs.ExtensionTwo.{readingTwoAnswer, tackIn, tackStart};
-ghost use Rattle.tack.specs.Table.{judgementTwoOf, ofFirst, ofSecond};
+ghost use Rattle.tack.specs.Table.{checksTwo, judgementOf};
 
 // The activation holds the flags.
 #[no_mangle]
@@ -75,8 +76,8 @@ pub extern "C" fn tack2_judge(
     keys_are_points: u8,
     signatures_correct: u8,
 ) -> JudgementAnswer
-    ensures answer { λ r. ⌜ r ≡ judgementTwoOf (calls.answer (calls.folded (calls.judgeTwo (connectionTwo clock (now (name .entry)) «extension_came» (now (extension .entry)) (now («spki_sha256» .entry)) «handshake_finished» (ofFirst «keys_are_points») (ofFirst «signatures_correct») (ofSecond «keys_are_points») (ofSecond «signatures_correct»)))) (now (table .entry))) ⌝ }
-    ensures table { λ _. ⌜ now (table .exit) ≡ calls.areaAfter (calls.folded (calls.judgeTwo (connectionTwo clock (now (name .entry)) «extension_came» (now (extension .entry)) (now («spki_sha256» .entry)) «handshake_finished» (ofFirst «keys_are_points») (ofFirst «signatures_correct») (ofSecond «keys_are_points») (ofSecond «signatures_correct»)))) (now (table .entry)) ⌝ }
+    ensures answer { λ r. ⌜ r ≡ judgementOf (calls.answered (calls.judgeTwo (connection clock (now (name .entry)) «extension_came» (now (extension .entry)) (now («spki_sha256» .entry)) (checksTwo «handshake_finished» «keys_are_points» «signatures_correct»))) (now (table .entry))) ⌝ }
+    ensures table { λ _. ⌜ now (table .exit) ≡ calls.areaLeft (calls.judgeTwo (connection clock (now (name .entry)) «extension_came» (now (extension .entry)) (now («spki_sha256» .entry)) (checksTwo «handshake_finished» «keys_are_points» «signatures_correct»))) (now (table .entry)) ⌝ }
 {
     match pin_judge_two::judge(
         table,
@@ -85,11 +86,13 @@ pub extern "C" fn tack2_judge(
         extension_came,
         extension,
         spki_sha256,
-        handshake_finished,
-        keys_are_points % 2 == 1,
-        signatures_correct % 2 == 1,
-        keys_are_points / 2 % 2 == 1,
-        signatures_correct / 2 % 2 == 1,
+        ChecksTwo {
+            handshake_finished,
+            first_is_point: keys_are_points % 2 == 1,
+            first_correct: signatures_correct % 2 == 1,
+            second_is_point: keys_are_points / 2 % 2 == 1,
+            second_correct: signatures_correct / 2 % 2 == 1,
+        },
     ) {
         Judgement::Judged { verdict, no_room } => {
             let number = pin_answers::verdict_number(verdict);

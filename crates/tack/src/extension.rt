@@ -1,8 +1,7 @@
 // The extension read and written.
+use tack_extension::answers::Writing;
 use tack_extension::reader;
 use tack_extension::reader::Reading;
-use tack_extension::writer;
-use tack_extension::writer::Writing;
 ghost use mathlib.Core.Path.{_≡_};
 ghost use lib.ListN.{length};
 ghost use lib.Dec.{eqb};
@@ -118,7 +117,7 @@ pub extern "C" fn tack_extension_write(
     ensures answer { λ r. ⌜ r ≡ writingAnswer (writing (good (parts (now (tack .entry)) (now (breaks .entry)) activation)) (bytesOf (parts (now (tack .entry)) (now (breaks .entry)) activation)) (now (out .entry))) ⌝ }
     ensures written { λ _. ⌜ now (out .exit) ≡ output (good (parts (now (tack .entry)) (now (breaks .entry)) activation)) (bytesOf (parts (now (tack .entry)) (now (breaks .entry)) activation)) (now (out .entry)) ⌝ }
 {
-    writing_answer(writer::write(tack, breaks, activation, out))
+    writing_answer(extension_writer::write(tack, breaks, activation, out))
 }
 
 #[no_mangle]
@@ -126,5 +125,5 @@ pub extern "C" fn tack_signed_bytes(tack: &[u8], out: &mut [u8]) -> WritingAnswe
     ensures answer { λ r. ⌜ r ≡ writingAnswer (writing (eqb (length (now (tack .entry))) 166) (signedBytes (now (tack .entry))) (now (out .entry))) ⌝ }
     ensures written { λ _. ⌜ now (out .exit) ≡ output (eqb (length (now (tack .entry))) 166) (signedBytes (now (tack .entry))) (now (out .entry)) ⌝ }
 {
-    writing_answer(writer::write_signed_bytes(tack, out))
+    writing_answer(extension_writer::write_signed_bytes(tack, out))
 }

@@ -1,10 +1,10 @@
 // A call written as a gateway records it.
 use crate::extension;
 use crate::extension::WritingAnswer;
-use recorded_call::writer;
+use pin_model::Checks;
 ghost use mathlib.Core.Path.{_≡_};
 ghost use Rattle.tack_extension.specs.Answers.{writing, output};
-ghost use Rattle.pin_model.specs.Judge.{connection};
+ghost use Rattle.pin_model.specs.Connection.{connection, checksBy};
 ghost use Rattle.recorded_call.specs.RecordedCall.{callBytes, recordable};
 ghost use Rattle.tack.specs.Extension.{writingAnswer};
 
@@ -21,19 +21,21 @@ pub extern "C" fn tack_call_write(
     breaks_correct: u8,
     out: &mut [u8],
 ) -> WritingAnswer
-    ensures answer { λ r. ⌜ r ≡ writingAnswer (writing (recordable (connection clock (now (name .entry)) «extension_came» (now (extension .entry)) (now («spki_sha256» .entry)) «handshake_finished» «key_is_point» «signature_correct» «breaks_correct»)) (callBytes (connection clock (now (name .entry)) «extension_came» (now (extension .entry)) (now («spki_sha256» .entry)) «handshake_finished» «key_is_point» «signature_correct» «breaks_correct»)) (now (out .entry))) ⌝ }
-    ensures written { λ _. ⌜ now (out .exit) ≡ output (recordable (connection clock (now (name .entry)) «extension_came» (now (extension .entry)) (now («spki_sha256» .entry)) «handshake_finished» «key_is_point» «signature_correct» «breaks_correct»)) (callBytes (connection clock (now (name .entry)) «extension_came» (now (extension .entry)) (now («spki_sha256» .entry)) «handshake_finished» «key_is_point» «signature_correct» «breaks_correct»)) (now (out .entry)) ⌝ }
+    ensures answer { λ r. ⌜ r ≡ writingAnswer (writing (recordable (connection clock (now (name .entry)) «extension_came» (now (extension .entry)) (now («spki_sha256» .entry)) (checksBy «handshake_finished» «key_is_point» «signature_correct» «breaks_correct»))) (callBytes (connection clock (now (name .entry)) «extension_came» (now (extension .entry)) (now («spki_sha256» .entry)) (checksBy «handshake_finished» «key_is_point» «signature_correct» «breaks_correct»))) (now (out .entry))) ⌝ }
+    ensures written { λ _. ⌜ now (out .exit) ≡ output (recordable (connection clock (now (name .entry)) «extension_came» (now (extension .entry)) (now («spki_sha256» .entry)) (checksBy «handshake_finished» «key_is_point» «signature_correct» «breaks_correct»))) (callBytes (connection clock (now (name .entry)) «extension_came» (now (extension .entry)) (now («spki_sha256» .entry)) (checksBy «handshake_finished» «key_is_point» «signature_correct» «breaks_correct»))) (now (out .entry)) ⌝ }
 {
-    extension::writing_answer(writer::write_call(
+    extension::writing_answer(call_writer::write_call(
         clock,
         name,
         extension_came,
         extension,
         spki_sha256,
-        handshake_finished,
-        key_is_point,
-        signature_correct,
-        breaks_correct,
+        Checks {
+            handshake_finished,
+            key_is_point,
+            signature_correct,
+            breaks_correct,
+        },
         out,
     ))
 }

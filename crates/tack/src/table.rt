@@ -4,9 +4,10 @@ use pin_answers::Judgement;
 use pin_manage::deletion;
 use pin_manage::inspection;
 use pin_manage::starting;
+use pin_model::Checks;
 ghost use mathlib.Core.Path.{_≡_};
 ghost use Rattle.pin_model.specs.Calls as calls;
-ghost use Rattle.pin_model.specs.Judge.{connection};
+ghost use Rattle.pin_model.specs.Connection.{connection, checksBy};
 ghost use Rattle.tack.specs.Table.{judgementOf, outcomeOf, inspectionOf};
 
 // tack_judgement
@@ -48,8 +49,8 @@ pub extern "C" fn tack_judge(
     signature_correct: bool,
     breaks_correct: u8,
 ) -> JudgementAnswer
-    ensures answer { λ r. ⌜ r ≡ judgementOf (calls.answer (calls.folded (calls.judge (connection clock (now (name .entry)) «extension_came» (now (extension .entry)) (now («spki_sha256» .entry)) «handshake_finished» «key_is_point» «signature_correct» «breaks_correct»))) (now (table .entry))) ⌝ }
-    ensures table { λ _. ⌜ now (table .exit) ≡ calls.areaAfter (calls.folded (calls.judge (connection clock (now (name .entry)) «extension_came» (now (extension .entry)) (now («spki_sha256» .entry)) «handshake_finished» «key_is_point» «signature_correct» «breaks_correct»))) (now (table .entry)) ⌝ }
+    ensures answer { λ r. ⌜ r ≡ judgementOf (calls.answered (calls.judge (connection clock (now (name .entry)) «extension_came» (now (extension .entry)) (now («spki_sha256» .entry)) (checksBy «handshake_finished» «key_is_point» «signature_correct» «breaks_correct»))) (now (table .entry))) ⌝ }
+    ensures table { λ _. ⌜ now (table .exit) ≡ calls.areaLeft (calls.judge (connection clock (now (name .entry)) «extension_came» (now (extension .entry)) (now («spki_sha256» .entry)) (checksBy «handshake_finished» «key_is_point» «signature_correct» «breaks_correct»))) (now (table .entry)) ⌝ }
 {
     match pin_judge::judge(
         table,
@@ -58,10 +59,12 @@ pub extern "C" fn tack_judge(
         extension_came,
         extension,
         spki_sha256,
-        handshake_finished,
-        key_is_point,
-        signature_correct,
-        breaks_correct,
+        Checks {
+            handshake_finished,
+            key_is_point,
+            signature_correct,
+            breaks_correct,
+        },
     ) {
         Judgement::Judged { verdict, no_room } => {
             let number = pin_answers::verdict_number(verdict);
@@ -84,8 +87,8 @@ pub extern "C" fn tack_judge(
 
 #[no_mangle]
 pub extern "C" fn tack_delete(table: &mut [u8], name: &[u8]) -> OutcomeAnswer
-    ensures answer { λ r. ⌜ r ≡ outcomeOf (calls.answer (calls.folded (calls.delete (now (name .entry)))) (now (table .entry))) ⌝ }
-    ensures table { λ _. ⌜ now (table .exit) ≡ calls.areaAfter (calls.folded (calls.delete (now (name .entry)))) (now (table .entry)) ⌝ }
+    ensures answer { λ r. ⌜ r ≡ outcomeOf (calls.answered (calls.delete (now (name .entry))) (now (table .entry))) ⌝ }
+    ensures table { λ _. ⌜ now (table .exit) ≡ calls.areaLeft (calls.delete (now (name .entry))) (now (table .entry)) ⌝ }
 {
     let number = pin_answers::deletion_number(deletion::delete(table, name));
     OutcomeAnswer {
@@ -101,7 +104,7 @@ pub extern "C" fn tack_inspect(
     clock: u64,
     second: bool,
 ) -> InspectionAnswer
-    ensures { λ r. ⌜ r ≡ inspectionOf (calls.answer (calls.folded (calls.inspect second (now (name .entry)) clock)) (now (table .entry))) ⌝ }
+    ensures { λ r. ⌜ r ≡ inspectionOf (calls.answered (calls.inspect second (now (name .entry)) clock) (now (table .entry))) ⌝ }
 {
     match inspection::inspect(table, name, clock, second) {
         Inspection::WithoutEnd { floor, initial } => InspectionAnswer {
@@ -149,8 +152,8 @@ pub extern "C" fn tack_inspect(
 
 #[no_mangle]
 pub extern "C" fn tack_start(table: &mut [u8], edition_two: bool) -> OutcomeAnswer
-    ensures answer { λ r. ⌜ r ≡ outcomeOf (calls.answer (calls.start «edition_two») (now (table .entry))) ⌝ }
-    ensures table { λ _. ⌜ now (table .exit) ≡ calls.areaAfter (calls.start «edition_two») (now (table .entry)) ⌝ }
+    ensures answer { λ r. ⌜ r ≡ outcomeOf (calls.answered (calls.start «edition_two») (now (table .entry))) ⌝ }
+    ensures table { λ _. ⌜ now (table .exit) ≡ calls.areaLeft (calls.start «edition_two») (now (table .entry)) ⌝ }
 {
     let number = pin_answers::starting_number(starting::start(table, edition_two));
     OutcomeAnswer {

@@ -1,19 +1,19 @@
--- Reading and writing are each other's inverse: what is accepted is exactly what the writer writes. Assumes nothing.
+-- Reading and writing are each other's inverse: what is accepted is exactly what the writer writes.
 use mathlib.Core.Path.{_≡_, refl, sym, ap, _∙_}
 use mathlib.Core.Bool.{Bool, true}
 use mathlib.Core.List.{List, [], _∷_, _++_}
 use mathlib.Core.Logic.{_↔_}
-use mathlib.Core.Option.{none, some}
+use mathlib.Core.Option.{some}
 use Prim.Native.Nat.{ℕ, zero, suc, _<_}
 use native.Mathlib.Omega.{arith}
 use lib.Dec.{leb}
 use lib.ListN.{length, take, drop, getD}
-use Rattle.octets.specs.Octets.{number, numberAfter, bigEndian}
+use Rattle.octets.specs.Octets.{number, bigEndian}
 use Rattle.octets.proofs.Tests.{and-left, and-right, and-both}
 use Rattle.octets.proofs.Numbers.{Bytes, bytes-behind, number-bigEndian, bigEndian-number, bigEndian-two}
 use Rattle.tack_extension.specs.Extension.{Parts, parts, good, bytesOf, read, tackLength, breaksLength, lengthStep, tackStep, breaksStep, activationStep, afterTack, afterBreaks, afterActivation, parse}
 use Rattle.tack_extension.specs.Answers.{writing, output}
-use Rattle.tack_extension.specs.declared.writer.Writing.the-variants.{Written}
+use Rattle.tack_extension.specs.declared.answers.Writing.the-variants.{Written}
 use Rattle.tack_extension.proofs.Steps.{LengthRead, breaks-small, cut-append, parsed}
 use Rattle.tack_extension.proofs.Writing.{counted}
 
@@ -92,16 +92,3 @@ pub writer-reads : (t b : List ℕ) (a : ℕ) (out : List ℕ) (n : ℕ)
 writer-reads t b a out n h =
     let w = counted (good (parts t b a)) (bytesOf (parts t b a)) out n h in
     (ap parse (w .first) ∙ reads-back (parts t b a) (w .allowed), w .behind)
-
--- E1, E2, E3 of document 01
-pub e1 : parse (0 ∷ 0 ∷ 0 ∷ 0 ∷ []) ≡ some (parts [] [] 0)
-unfolding parse tackStep breaksStep activationStep number numberAfter
-e1 = refl
-
-pub e2 : parse (0 ∷ 0 ∷ 0 ∷ 2 ∷ []) ≡ none
-unfolding parse tackStep breaksStep activationStep number numberAfter
-e2 = refl
-
-pub e3 : parse [] ≡ none
-unfolding parse tackStep
-e3 = refl

@@ -1,5 +1,5 @@
 -- What the reader and the writers answer, by document 01, 'Extension bytes' and 'What each number says', and the alerts of document
--- 02, Q-3. Assumes nothing.
+-- 02, Q-3.
 use Prim.Native.Nat.{ℕ}
 use mathlib.Core.Bool.{Bool, cond, _&&_, _||_}
 use mathlib.Core.List.{List, [], _∷_}
@@ -10,8 +10,8 @@ use Rattle.octets.specs.Octets.{put}
 use Rattle.tack_extension.specs.Extension.{Parts}
 use Rattle.tack_extension.specs.declared.reader.Reading.{Reading}
 use Rattle.tack_extension.specs.declared.reader.Reading.the-variants.{WellFormed, Malformed}
-use Rattle.tack_extension.specs.declared.writer.Writing.{Writing}
-use Rattle.tack_extension.specs.declared.writer.Writing.the-variants.{Written, BadPart, NoSpace}
+use Rattle.tack_extension.specs.declared.answers.Writing.{Writing}
+use Rattle.tack_extension.specs.declared.answers.Writing.the-variants.{Written, BadPart, NoSpace}
 
 -- 'What each number says': the numbers that carry an alert; every other carries 0
 abbrev pub alerts : List (ℕ × ℕ)

@@ -1,4 +1,4 @@
--- Which parts are good, and their bytes, where they are cut from one part that holds the tacks. Assumes nothing.
+-- Which parts are good, and their bytes, where they are cut from one part that holds the tacks.
 use mathlib.Core.Path.{_≡_, refl, ap, ap₂, _∙_}
 use mathlib.Core.Bool.{Bool, true, false, _&&_, _||_, and-false, or-true}
 use mathlib.Core.List.{List, [], _∷_, _++_}

@@ -1,24 +1,23 @@
--- Where the reading steps of edition two end in the caller's bytes: what the reader's private functions have to show. Assumes
--- nothing.
+-- Where the reading steps of edition two end in the caller's bytes: what the reader's private functions have to show.
 use mathlib.Core.Path.{_≡_, refl, sym, ap, _∙_}
-use mathlib.Core.Bool.{true, false, cond}
+use mathlib.Core.Bool.{cond}
 use mathlib.Core.List.{List, _++_}
 use mathlib.Core.Option.{Option, none, some}
 use Prim.Native.Nat.{ℕ, _+_, _-_, _≤_, _<_}
 use native.Mathlib.Omega.{arith}
-use lib.ListN.{length, getD, take, drop, length-drop, take-append-drop}
+use lib.ListN.{length, take, drop, length-drop, take-append-drop}
 use Rattle.octets.specs.Octets.{part, number}
 use Rattle.octets.proofs.Parts.{part-all, part-part}
+use Rattle.octets.proofs.Options.{clash, byOption}
 use Rattle.tack_extension.specs.Extension.{Step, refused, cut}
-use Rattle.tack_extension.specs.Places.{endOf}
+use Rattle.tack_extension.specs.Places.{endOf, lastOf}
 use Rattle.tack_extension.specs.declared.reader.Reached.the-variants.{At, Stopped}
-use Rattle.tack_extension.proofs.Steps.{clash, byOption}
-use Rattle.tack_extension.proofs.Places.{no-two-bytes, two-bytes, last-none, last-some, Stands, length-stands, Ended, ended, end-stopped}
-use Rattle.tack_extension_two.specs.ExtensionTwo.{PartsTwo, tacksLength, flagsAllowed, tacksStep, flagsStep, afterFlags, afterTacks, parseTwo, partsOrNone}
+use Rattle.tack_extension.specs.declared.reader.LastByte.the-variants.{Is, Wrong}
+use Rattle.tack_extension.proofs.Places.{no-two-bytes, two-bytes, Stands, length-stands, Ended, ended, end-stopped, last-wrong, last-is}
+use Rattle.tack_extension_two.specs.ExtensionTwo.{PartsTwo, tacksLength, tacksStep, flagsStep, afterFlags, afterTacks, parseTwo, partsOrNone}
 use Rattle.tack_extension_two.specs.AnswersTwo.{readingTwo}
-use Rattle.tack_extension_two.specs.PlacesTwo.{flagsOf, layoutTwo}
+use Rattle.tack_extension_two.specs.PlacesTwo.{layoutTwo}
 use Rattle.tack_extension_two.specs.declared.reader.Reading.the-variants.{WellFormed}
-use Rattle.tack_extension_two.specs.declared.reader.Flags.the-variants.{Are, Wrong}
 use Rattle.tack_extension_two.specs.declared.reader.Layout.the-variants.{Ends, Refused}
 use Rattle.tack_extension_two.proofs.GoodTwo.{tacks-between}
 use Rattle.tack_extension_two.proofs.StepsTwo.{tacks-read, parsed-two}
@@ -32,29 +31,6 @@ module _ (s : List ℕ) where
   pub tacks-some : (n : ℕ) → 2 ≤ length s → n ≡ number (part s 0 2) → tacksStep s ≡ cond (tacksLength n) (cut n (drop 2 s)) refused
   unfolding tacksStep part
   tacks-some n h e = two-bytes tacksLength s n h e
-
-module _ (n : ℕ) (s : List ℕ) (at : ℕ) where
-  pub flags-none : (length s - at ≡ 1 → ⊥) → Wrong ≡ flagsOf (flagsStep n (drop at s))
-  unfolding flagsStep
-  flags-none h = sym (ap flagsOf (last-none (flagsAllowed n) s at h))
-
-  flags-some : length s - at ≡ 1 → flagsStep n (drop at s) ≡ cond (flagsAllowed n (getD s at 0)) (some (getD s at 0)) none
-  unfolding flagsStep
-  flags-some h = last-some (flagsAllowed n) s at h
-
-  pub flags-refused : length s - at ≡ 1 → flagsAllowed n (getD s at 0) ≡ false → Wrong ≡ flagsOf (flagsStep n (drop at s))
-  flags-refused h e = rw (flags-some h, e) refl
-
-  pub flags-are : length s - at ≡ 1 → flagsAllowed n (getD s at 0) ≡ true → Are (getD s at 0) ≡ flagsOf (flagsStep n (drop at s))
-  flags-are h e = rw (flags-some h, e) refl
-
-answer-wrong : (x : Option ℕ) → flagsOf x ≡ Wrong → x ≡ none
-answer-wrong (some f) e = clash (cc)
-answer-wrong none e = refl
-
-answer-are : (x : Option ℕ) (f : ℕ) → flagsOf x ≡ Are f → x ≡ some f
-answer-are (some g) f e = let z : g ≡ f = cc in ap some z
-answer-are none f e = clash (cc)
 
 -- the layout, as far as the steps came
 pub layout-no-tacks : (s : List ℕ) → endOf 2 (tacksStep s) ≡ Stopped → Refused ≡ layoutTwo (parseTwo s)
@@ -71,15 +47,15 @@ module _ (s : List ℕ) (t : ℕ) (e : endOf 2 (tacksStep s) ≡ At t) where
       let n : length (tacks-ended .part) ≡ t - 2 = omega (arith, tacks-ended .size) in
       ap afterTacks (tacks-ended .step) ∙ ap (λ (k : ℕ). afterFlags (tacks-ended .part) (flagsStep k (drop t s))) n
 
-  pub layout-no-flags : flagsOf (flagsStep (t - 2) (drop t s)) ≡ Wrong → Refused ≡ layoutTwo (parseTwo s)
-  layout-no-flags g = sym (ap layoutTwo (behind-tacks ∙ ap (afterFlags (tacks-ended .part)) (answer-wrong (flagsStep (t - 2) (drop t s)) g)))
+  pub layout-no-flags : lastOf (flagsStep (t - 2) (drop t s)) ≡ Wrong → Refused ≡ layoutTwo (parseTwo s)
+  layout-no-flags g = sym (ap layoutTwo (behind-tacks ∙ ap (afterFlags (tacks-ended .part)) (last-wrong (flagsStep (t - 2) (drop t s)) g)))
 
-  pub layout-ends : (f : ℕ) → flagsOf (flagsStep (t - 2) (drop t s)) ≡ Are f → Ends t f ≡ layoutTwo (parseTwo s)
+  pub layout-ends : (f : ℕ) → lastOf (flagsStep (t - 2) (drop t s)) ≡ Is f → Ends t f ≡ layoutTwo (parseTwo s)
   layout-ends f g =
       let x : t ≡ 2 + length (take 166 (tacks-ended .part) ++ drop 166 (tacks-ended .part)) =
       rw (take-append-drop 166 (tacks-ended .part)) (tacks-ended .size) in
       ap (λ (k : ℕ). Ends k f) x
-      ∙ sym (ap layoutTwo (behind-tacks ∙ ap (afterFlags (tacks-ended .part)) (answer-are (flagsStep (t - 2) (drop t s)) f g)))
+      ∙ sym (ap layoutTwo (behind-tacks ∙ ap (afterFlags (tacks-ended .part)) (last-is (flagsStep (t - 2) (drop t s)) f g)))
 
 -- what a layout says of the reading
 pub layout-refused : (x : Option PartsTwo) → layoutTwo x ≡ Refused → x ≡ none

@@ -1,5 +1,4 @@
 -- Reading and writing an extension of edition two are each other's inverse: what is accepted is exactly what the writer writes.
--- Assumes nothing.
 use mathlib.Core.Path.{_≡_, sym, ap, _∙_}
 use mathlib.Core.Bool.{Bool, true, cond}
 use mathlib.Core.List.{List, [], _∷_, _++_}
@@ -10,7 +9,7 @@ use native.Mathlib.Omega.{arith}
 use lib.ListN.{length, take, drop}
 use Rattle.octets.proofs.Numbers.{Bytes}
 use Rattle.tack_extension.specs.Answers.{writing, output}
-use Rattle.tack_extension.specs.declared.writer.Writing.the-variants.{Written}
+use Rattle.tack_extension.specs.declared.answers.Writing.the-variants.{Written}
 use Rattle.tack_extension.proofs.RoundTrip.{length-rewrites, length-back}
 use Rattle.tack_extension.proofs.Writing.{counted}
 use Rattle.tack_extension_two.specs.ExtensionTwo.{PartsTwo, partsIn, tacksLength, goodTwo, bytesOfTwo, tacksStep, flagsStep, afterFlags, afterTacks, parseTwo}

@@ -1,11 +1,12 @@
--- What the reading steps of edition two say of the bytes: a step that read gives back what it read. Assumes nothing.
+-- What the reading steps of edition two say of the bytes: a step that read gives back what it read.
 use mathlib.Core.Path.{_≡_, sym, ap, _∙_}
 use mathlib.Core.List.{List}
 use mathlib.Core.Option.{some}
 use Prim.Native.Nat.{ℕ}
 use lib.ListN.{length}
+use Rattle.octets.proofs.Options.{never-some, byOption}
 use Rattle.tack_extension.specs.Extension.{read}
-use Rattle.tack_extension.proofs.Steps.{never-some, byStep, byOption, LengthRead, length-read, LastRead, last-read}
+use Rattle.tack_extension.proofs.Steps.{byStep, LengthRead, length-read, LastRead, last-read}
 use Rattle.tack_extension_two.specs.ExtensionTwo.{PartsTwo, partsIn, tacksLength, flagsAllowed, tacksStep, flagsStep, afterFlags, afterTacks, parseTwo}
 
 pub tacks-read : (s t r : List ℕ) → tacksStep s ≡ read t r → LengthRead tacksLength s t r

@@ -1,4 +1,4 @@
--- What the writer of edition two writes, piece by piece. Assumes nothing.
+-- What the writer of edition two writes, piece by piece.
 use mathlib.Core.Path.{_≡_, sym, _∙_}
 use mathlib.Core.List.{List, [], _∷_, _++_, append-assoc}
 use Prim.Native.Nat.{ℕ, _+_, _%_, _<_}

@@ -1,5 +1,5 @@
 -- What the reader of edition two answers, by document 02, Q-3, and document 01, 'Extension bytes'. What the writer answers is as in
--- edition one. Assumes nothing.
+-- edition one.
 use Prim.Native.Nat.{ℕ}
 use mathlib.Core.Option.{Option, none, some}
 use Rattle.tack_extension_two.specs.ExtensionTwo.{PartsTwo}

@@ -1,5 +1,4 @@
--- The bytes of an extension of edition two, by document 02, Q-3, and where that is silent by document 01, 'Extension bytes'. Assumes
--- nothing.
+-- The bytes of an extension of edition two, by document 02, Q-3, and where that is silent by document 01, 'Extension bytes'.
 use Prim.Native.Nat.{ℕ, _/_, _%_}
 use mathlib.Core.Bool.{Bool, cond, _&&_, _||_}
 use mathlib.Core.List.{List, [], _∷_, _++_}

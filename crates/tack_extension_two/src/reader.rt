@@ -1,23 +1,19 @@
 // The reader. Each step gives the place where it ended, or stops; the first that stops ends the reading.
 use crate::allowed;
+use tack_extension::reader::LastByte;
 use tack_extension::reader::Reached;
 ghost use mathlib.Core.Path.{_≡_};
 ghost use Prim.Native.Nat.{_≤_};
 ghost use lib.ListN.{length, drop};
-ghost use Rattle.tack_extension.specs.Places.{endOf};
+ghost use Rattle.tack_extension.specs.Places.{endOf, lastOf};
 ghost use Rattle.tack_extension_two.specs.ExtensionTwo.{tacksStep, flagsStep, parseTwo, partsOrNone};
 ghost use Rattle.tack_extension_two.specs.AnswersTwo.{readingTwo};
-ghost use Rattle.tack_extension_two.specs.PlacesTwo.{flagsOf, layoutTwo};
+ghost use Rattle.tack_extension_two.specs.PlacesTwo.{layoutTwo};
 
 // What the reader answers: 9 with the flags, or 16.
 pub enum Reading {
     WellFormed { flags: u8 },
     Malformed,
-}
-
-enum Flags {
-    Are(u8),
-    Wrong,
 }
 
 // Where the tacks end, and the flags.
@@ -44,18 +40,18 @@ fn tacks_end(s: &[u8]) -> Reached
 }
 
 // The flags byte, which is at `at` and is the last; `tacks` is how many bytes of tacks stand before it.
-fn flags_at(s: &[u8], at: usize, tacks: usize) -> Flags
+fn flags_at(s: &[u8], at: usize, tacks: usize) -> LastByte
     requires { ⌜ at ≤ length (now s) ⌝ }
-    ensures { λ r. ⌜ r ≡ flagsOf (flagsStep tacks (drop at (now (s .entry)))) ⌝ }
+    ensures { λ r. ⌜ r ≡ lastOf (flagsStep tacks (drop at (now (s .entry)))) ⌝ }
 {
     if s.len() - at != 1 {
-        return Flags::Wrong;
+        return LastByte::Wrong;
     }
     let flags = s[at];
     if !allowed::flags_allowed(tacks, flags) {
-        return Flags::Wrong;
+        return LastByte::Wrong;
     }
-    Flags::Are(flags)
+    LastByte::Is(flags)
 }
 
 fn read_layout(s: &[u8]) -> Layout
@@ -64,7 +60,7 @@ fn read_layout(s: &[u8]) -> Layout
     let Reached::At(tacks) = tacks_end(s) else {
         return Layout::Refused;
     };
-    let Flags::Are(flags) = flags_at(s, tacks, tacks - 2) else {
+    let LastByte::Is(flags) = flags_at(s, tacks, tacks - 2) else {
         return Layout::Refused;
     };
     Layout::Ends { tacks, flags }

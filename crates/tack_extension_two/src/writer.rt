@@ -1,6 +1,6 @@
 // The writer: the extension from one part that holds one or two tacks, and the flags.
 use crate::allowed;
-use tack_extension::writer::Writing;
+use tack_extension::answers::Writing;
 ghost use mathlib.Core.Path.{_≡_};
 ghost use Prim.Native.Nat.{_+_, _≤_, _<_};
 ghost use lib.ListN.{length};

@@ -1,4 +1,4 @@
--- What holding a tally tells of its counts. Assumes nothing.
+-- What holding a tally tells of its counts.
 use mathlib.Core.Path.{_≡_, sym, subst, _∙_}
 use mathlib.Core.List.{List}
 use Prim.Native.Nat.{ℕ, _≤_}
@@ -10,7 +10,7 @@ use Rattle.tally.specs.declared.Tally.{Tally}
 use Rattle.tally.proofs.Tally as T
 use Rattle.tally.proofs.Tally.Laws as T′
 
-pub counts-length : (h : Tally) (vs : List Val) → Is T.the-row h vs → length (h .counts) ≡ 32
+counts-length : (h : Tally) (vs : List Val) → Is T.the-row h vs → length (h .counts) ≡ 32
 counts-length h vs is = sym (length-map (h .counts) (λ v. v)) ∙ LL.owed T.the-type T′.the-laws h vs is .0 .1 .0 .1
 
 -- a number from 32 on has no count

@@ -1,4 +1,4 @@
--- The tally against the list of answers (document 02, Q-1): each count, and their sum. Assumes nothing.
+-- The tally against the list of answers (document 02, Q-1): each count, and their sum.
 use mathlib.Core.Path.{_≡_, refl, sym, ap, subst, _∙_}
 use mathlib.Core.Bool.{true}
 use mathlib.Core.List.{List, [], _∷_}
@@ -32,7 +32,7 @@ unfolding counted
 counted-other cs m n d = getD-set-other cs m n (raised (getD cs m 0)) 0 d
 
 -- each count is the count in the list of answers, staying at the top
-pub each-count : (ns : List ℕ) (n : ℕ) → ltb n 32 ≡ true → getD (tallied ns) n 0 ≡ min (times n ns) top
+each-count : (ns : List ℕ) (n : ℕ) → ltb n 32 ≡ true → getD (tallied ns) n 0 ≡ min (times n ns) top
 unfolding tallied times
 each-count [] n l = getD-replicate 32 n 0 0 (ltb-true n 32 l)
 each-count (m ∷ ns) n l =

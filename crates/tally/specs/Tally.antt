@@ -1,4 +1,4 @@
--- The running tally of a night (document 02, Q-1): a count for each number of an answer. Assumes nothing.
+-- The running tally of a night (document 02, Q-1): a count for each number of an answer.
 use Prim.Native.Nat.{ℕ, _+_, min}
 use mathlib.Core.Bool.{Bool, cond}
 use mathlib.Core.List.{List, [], _∷_}

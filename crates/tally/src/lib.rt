@@ -38,22 +38,6 @@ pub fn counted(tally: Tally, number: u8) -> Tally
     next
 }
 
-// The same in place.
-pub fn count(tally: &mut Tally, number: u8)
-    ensures { λ _. ⌜ now (tally .exit) .counts ≡ counted number (now (tally .entry) .counts) ⌝ }
-{
-    *tally = counted(*tally, number);
-}
-
-// The same by lending: a tally of the caller's own is lent to `count`, and handed back.
-pub fn count_lending(tally: Tally, number: u8) -> Tally
-    ensures { λ r. ⌜ r .counts ≡ counted number (tally .counts) ⌝ }
-{
-    let mut lent = tally;
-    count(&mut lent, number);
-    lent
-}
-
 // How often a number was answered.
 pub fn times(tally: Tally, number: u8) -> u32
     ensures { λ r. ⌜ r ≡ getD (tally .counts) number 0 ⌝ }
@@ -62,11 +46,4 @@ pub fn times(tally: Tally, number: u8) -> u32
         return 0;
     }
     tally.counts[number as usize]
-}
-
-// The same of a tally that is lent.
-pub fn times_of(tally: &Tally, number: u8) -> u32
-    ensures { λ r. ⌜ r ≡ getD (now (tally .entry) .counts) number 0 ⌝ }
-{
-    times(*tally, number)
 }

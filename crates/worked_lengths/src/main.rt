@@ -1,10 +1,9 @@
 // The worked lengths of document 01: extensions of 4, 132, 170 and 1,194 bytes, names at their limits. A line each, the answer
 // behind it; the stored output is the paper's.
 use libc::STDOUT_FILENO;
+use tack_extension::answers::Writing;
 use tack_extension::reader;
 use tack_extension::reader::Reading;
-use tack_extension::writer;
-use tack_extension::writer::Writing;
 
 fn say(words: &[u8], n: u64) {
     io::write_all(STDOUT_FILENO, words);
@@ -42,7 +41,7 @@ fn written(tack_length: usize, breaks_length: usize, space: usize) -> u64 {
     if 2048 < space {
         return 0;
     }
-    outcome(writer::write(
+    outcome(extension_writer::write(
         &tack[0..tack_length],
         &breaks[0..breaks_length],
         1,
@@ -58,7 +57,7 @@ fn read(length: usize) -> u64 {
     if 1200 < length {
         return 0;
     }
-    writer::write(&tack, &breaks, 1, &mut out);
+    extension_writer::write(&tack, &breaks, 1, &mut out);
     number(reader::read(&out[0..length]))
 }
 
@@ -68,7 +67,7 @@ fn signed(tack_length: usize) -> u64 {
     if 256 < tack_length {
         return 0;
     }
-    outcome(writer::write_signed_bytes(&tack[0..tack_length], &mut out))
+    outcome(extension_writer::write_signed_bytes(&tack[0..tack_length], &mut out))
 }
 
 fn extensions() {

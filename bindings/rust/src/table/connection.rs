@@ -1,13 +1,15 @@
 //! What the gateway knows of a connection.
 
+use super::{Checks, ChecksTwo};
 use crate::raw;
 
 /// One finished connection of edition one, as the gateway and its verifier saw it.
 ///
-/// The answers about a tack or a break signature that did not come are ignored.
+/// It is made by [`new`](Connection::new) and the functions beside it. The fields may be read and set; others may come.
 #[derive(Debug, Clone, Copy)]
+#[non_exhaustive]
 pub struct Connection<'a> {
-    /// The time in whole minutes since 1970, 4,294,924,095 at most.
+    /// The time in whole minutes since 1970, 4,294,924,095 at most: [`minutes::since_1970`](crate::minutes::since_1970).
     pub clock: u64,
     /// The server's host name, in letters of either case: A-Z is taken as a-z.
     pub name: &'a [u8],
@@ -15,15 +17,92 @@ pub struct Connection<'a> {
     pub extension: Option<&'a [u8]>,
     /// The SHA-256 of the server's SubjectPublicKeyInfo. One that is not 32 bytes long is unequal to every target hash.
     pub spki_sha256: &'a [u8],
-    /// Whether the handshake finished.
-    pub handshake_finished: bool,
-    /// Whether the tack key is a P-256 point.
-    pub key_is_point: bool,
-    /// Whether the tack signature is correct for the tack key.
-    pub signature_correct: bool,
-    /// Bit i, the lowest being 0, says that break signature i is correct.
-    pub breaks_correct: u8,
+    /// What the caller has verified.
+    pub checks: Checks,
 }
+
+/// One finished connection of edition two, as the gateway and its verifier saw it.
+///
+/// It is made by [`new`](ConnectionTwo::new) and the functions beside it. The fields may be read and set; others may come.
+#[derive(Debug, Clone, Copy)]
+#[non_exhaustive]
+pub struct ConnectionTwo<'a> {
+    /// The time in whole minutes since 1970, 4,294,924,095 at most: [`minutes::since_1970`](crate::minutes::since_1970).
+    pub clock: u64,
+    /// The server's host name, in letters of either case: A-Z is taken as a-z.
+    pub name: &'a [u8],
+    /// The TACK extension's bytes, if one came.
+    pub extension: Option<&'a [u8]>,
+    /// The SHA-256 of the server's SubjectPublicKeyInfo. One that is not 32 bytes long is unequal to every target hash.
+    pub spki_sha256: &'a [u8],
+    /// What the caller has verified.
+    pub checks: ChecksTwo,
+}
+
+// Both editions have the same fields, but each its own checks.
+macro_rules! made {
+    ($connection:ident, $checks:ident) => {
+        impl<'a> $connection<'a> {
+            /// A connection in which no extension came.
+            pub fn new(
+                clock: u64,
+                name: &'a [u8],
+                spki_sha256: &'a [u8],
+                checks: $checks,
+            ) -> $connection<'a> {
+                $connection {
+                    clock,
+                    name,
+                    extension: None,
+                    spki_sha256,
+                    checks,
+                }
+            }
+
+            /// The same with an extension of these bytes.
+            pub fn with_extension(self, extension: &'a [u8]) -> $connection<'a> {
+                $connection {
+                    extension: Some(extension),
+                    ..self
+                }
+            }
+
+            /// The same without an extension.
+            pub fn without_extension(self) -> $connection<'a> {
+                $connection {
+                    extension: None,
+                    ..self
+                }
+            }
+
+            /// The same at another time.
+            pub fn with_clock(self, clock: u64) -> $connection<'a> {
+                $connection { clock, ..self }
+            }
+
+            /// The same with another server name.
+            pub fn with_name(self, name: &'a [u8]) -> $connection<'a> {
+                $connection { name, ..self }
+            }
+
+            /// The same with another hash of the server's SubjectPublicKeyInfo.
+            pub fn with_spki_sha256(self, spki_sha256: &'a [u8]) -> $connection<'a> {
+                $connection {
+                    spki_sha256,
+                    ..self
+                }
+            }
+
+            /// The same with other answers of the caller.
+            pub fn with_checks(self, checks: $checks) -> $connection<'a> {
+                $connection { checks, ..self }
+            }
+        }
+    };
+}
+
+made!(Connection, Checks);
+made!(ConnectionTwo, ChecksTwo);
 
 impl<'a> Connection<'a> {
     /// As the C interface takes it.
@@ -34,33 +113,12 @@ impl<'a> Connection<'a> {
             extension_came: self.extension.is_some(),
             extension: self.extension.unwrap_or(&[]),
             spki_sha256: self.spki_sha256,
-            handshake_finished: self.handshake_finished,
-            key_is_point: self.key_is_point,
-            signature_correct: self.signature_correct,
-            breaks_correct: self.breaks_correct,
+            handshake_finished: self.checks.handshake_finished,
+            key_is_point: self.checks.key_is_point,
+            signature_correct: self.checks.signature_correct,
+            breaks_correct: self.checks.breaks_correct,
         }
     }
-}
-
-/// One finished connection of edition two, as the gateway and its verifier saw it.
-///
-/// The answers about a tack that did not come are ignored.
-#[derive(Debug, Clone, Copy)]
-pub struct ConnectionTwo<'a> {
-    /// The time in whole minutes since 1970, 4,294,924,095 at most.
-    pub clock: u64,
-    /// The server's host name, in letters of either case: A-Z is taken as a-z.
-    pub name: &'a [u8],
-    /// The TACK extension's bytes, if one came.
-    pub extension: Option<&'a [u8]>,
-    /// The SHA-256 of the server's SubjectPublicKeyInfo. One that is not 32 bytes long is unequal to every target hash.
-    pub spki_sha256: &'a [u8],
-    /// Whether the handshake finished.
-    pub handshake_finished: bool,
-    /// Whether the key of the first tack, and that of the second, is a P-256 point.
-    pub keys_are_points: [bool; 2],
-    /// Whether the signature of the first tack, and that of the second, is correct for its key.
-    pub signatures_correct: [bool; 2],
 }
 
 impl<'a> ConnectionTwo<'a> {
@@ -72,9 +130,9 @@ impl<'a> ConnectionTwo<'a> {
             extension_came: self.extension.is_some(),
             extension: self.extension.unwrap_or(&[]),
             spki_sha256: self.spki_sha256,
-            handshake_finished: self.handshake_finished,
-            keys_are_points: bits(self.keys_are_points),
-            signatures_correct: bits(self.signatures_correct),
+            handshake_finished: self.checks.handshake_finished,
+            keys_are_points: bits(self.checks.keys_are_points),
+            signatures_correct: bits(self.checks.signatures_correct),
         }
     }
 }

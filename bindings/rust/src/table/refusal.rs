@@ -1,14 +1,14 @@
 //! Why a call was refused.
 
-use super::Edition;
 use std::fmt;
 
-/// Why a call was refused; the table is as it was.
+/// Why a call was refused.
 ///
 /// Where several reasons apply in edition one, the one with the lowest number is given, but 27 next to 11. In edition two the
 /// order is 10, 11, 27, 12 to 16, 24; then 18, 19, 23, 20, 21 of the first tack, and the same of the second; then 22 of either.
 /// The generations, hashes and signatures are those of a tack, so without one 18 to 24 cannot come.
 #[derive(Debug, Clone, Copy, PartialEq, Eq, Hash)]
+#[non_exhaustive]
 pub enum Refusal {
     /// 10: the area is not 39,432 bytes long.
     AreaLength = 10,
@@ -66,66 +66,27 @@ const ALL: [Refusal; 16] = [
 ];
 
 impl Refusal {
-    /// The refusal of a number, if it is one from 10 to 24, or 27.
-    ///
-    /// ```
-    /// use tack::table::Refusal;
-    ///
-    /// assert_eq!(Refusal::of(22), Some(Refusal::GenerationRevoked));
-    /// assert_eq!(Refusal::of(2), None);
-    /// for number in (10..=24).chain([27]) {
-    ///     assert!(Refusal::of(number).is_some_and(|refusal| refusal.number() == number));
-    /// }
-    /// ```
-    pub fn of(number: u8) -> Option<Refusal> {
-        ALL.into_iter().find(|refusal| refusal.number() == number)
-    }
-
     /// The refusal's number.
     pub fn number(self) -> u8 {
         self as u8
     }
+}
 
-    /// The TLS alert that goes with it in judging by this edition, or 0 for none.
-    ///
-    /// A refusal whose alert depends on the edition comes only from judging by the table's own, so
-    /// [`PinTable::edition`](super::PinTable::edition) is always the right one.
-    ///
-    /// ```
-    /// use tack::table::{Edition, Refusal};
-    ///
-    /// assert_eq!(Refusal::ExtensionMalformed.alert(Edition::One), 50);
-    /// assert_eq!(Refusal::ExtensionMalformed.alert(Edition::Two), 42);
-    /// assert_eq!(Refusal::GenerationRevoked.alert(Edition::Two), 44);
-    /// ```
-    pub fn alert(self, edition: Edition) -> u8 {
-        match edition {
-            Edition::One => self.alert_of_one(),
-            Edition::Two => self.alert_of_two(),
-        }
-    }
+/// ```
+/// use tack::table::Refusal;
+///
+/// assert_eq!(Refusal::try_from(22), Ok(Refusal::GenerationRevoked));
+/// assert!(Refusal::try_from(2).is_err());
+/// for number in (10..=24).chain([27]) {
+///     assert!(Refusal::try_from(number).is_ok_and(|refusal| refusal.number() == number));
+/// }
+/// ```
+impl TryFrom<u8> for Refusal {
+    type Error = NoRefusal;
 
-    fn alert_of_one(self) -> u8 {
-        match self {
-            GenerationRevoked => 44,
-            Expired => 45,
-            TargetHashUnequal => 47,
-            ExtensionMalformed | GenerationBelowOwnMinimum => 50,
-            BreakSignatureIncorrect | KeyNotAPoint | TackSignatureIncorrect => 51,
-            _ => 0,
-        }
-    }
-
-    fn alert_of_two(self) -> u8 {
-        match self {
-            ExtensionMalformed
-            | KeyNotAPoint
-            | GenerationBelowOwnMinimum
-            | TargetHashUnequal
-            | TackSignatureIncorrect
-            | OneKeyTwice => 42,
-            _ => self.alert_of_one(),
-        }
+    fn try_from(number: u8) -> Result<Refusal, NoRefusal> {
+        let found = ALL.into_iter().find(|refusal| refusal.number() == number);
+        found.ok_or(NoRefusal { number })
     }
 }
 
@@ -152,4 +113,74 @@ impl fmt::Display for Refusal {
     }
 }
 
-impl std::error::Error for Refusal {}
+/// No refusal has this number.
+#[derive(Debug, Clone, Copy, PartialEq, Eq, Hash)]
+#[non_exhaustive]
+pub struct NoRefusal {
+    /// The number.
+    pub number: u8,
+}
+
+impl fmt::Display for NoRefusal {
+    fn fmt(&self, f: &mut fmt::Formatter<'_>) -> fmt::Result {
+        write!(f, "{} is the number of no refusal", self.number)
+    }
+}
+
+impl std::error::Error for NoRefusal {}
+
+/// A call was refused, and the table is as it was: the reason, and the alert that the library answered with.
+///
+/// ```
+/// use tack::table::{Checks, Connection, PinTable, Refusal};
+///
+/// let malformed = Connection::new(1000, b"desk.example", &[0x77; 32], Checks::all_passed()).with_extension(&[0]);
+/// let refused = PinTable::new().judge(&malformed).unwrap_err();
+/// assert_eq!(refused.refusal(), Refusal::ExtensionMalformed);
+/// assert_eq!((refused.number(), refused.alert()), (16, 50));
+/// assert_eq!(refused.to_string(), "the TACK extension is malformed");
+/// ```
+#[derive(Debug, Clone, Copy, PartialEq, Eq, Hash)]
+pub struct Refused {
+    refusal: Refusal,
+    alert: u8,
+}
+
+impl Refused {
+    /// The library's answer, whose number is none of the call's own.
+    pub(crate) fn new(number: u8, alert: u8) -> Refused {
+        match Refusal::try_from(number) {
+            Ok(refusal) => Refused { refusal, alert },
+            Err(_) => unreachable!("the library answered {number}"),
+        }
+    }
+
+    /// Why.
+    pub fn refusal(self) -> Refusal {
+        self.refusal
+    }
+
+    /// The refusal's number.
+    pub fn number(self) -> u8 {
+        self.refusal.number()
+    }
+
+    /// The TLS alert that goes with it in the edition of the call, or 0 for none.
+    pub fn alert(self) -> u8 {
+        self.alert
+    }
+}
+
+impl fmt::Display for Refused {
+    fn fmt(&self, f: &mut fmt::Formatter<'_>) -> fmt::Result {
+        self.refusal.fmt(f)
+    }
+}
+
+impl std::error::Error for Refused {}
+
+impl From<Refused> for Refusal {
+    fn from(refused: Refused) -> Refusal {
+        refused.refusal
+    }
+}

@@ -1,7 +1,7 @@
 //! The tacks and the connection that the tests of edition two begin with.
 
 use tack::extension_two;
-use tack::table::{ConnectionTwo, Edition, PinTable};
+use tack::table::{ChecksTwo, ConnectionTwo, Edition, PinTable};
 
 pub const HASH: [u8; 32] = [0x77; 32];
 
@@ -47,15 +47,7 @@ pub fn shown(tacks: &[Tack], flags: u8) -> Vec<u8> {
 
 /// A connection that passes at 1000.
 pub fn good(extension: &[u8]) -> ConnectionTwo<'_> {
-    ConnectionTwo {
-        clock: 1000,
-        name: b"a.b",
-        extension: Some(extension),
-        spki_sha256: &HASH,
-        handshake_finished: true,
-        keys_are_points: [true, true],
-        signatures_correct: [true, true],
-    }
+    ConnectionTwo::new(1000, b"a.b", &HASH, ChecksTwo::all_passed()).with_extension(extension)
 }
 
 /// A table of edition two with pins of `a.b` under the keys 0x11 and 0x22, made at 1000 with floor 3.

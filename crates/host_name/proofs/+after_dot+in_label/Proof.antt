@@ -1,4 +1,4 @@
--- Each answers for the bytes that it has not read. The measure of both is the number of these bytes. Assumes nothing.
+-- Each answers for the bytes that it has not read. The measure of both is the number of these bytes.
 use mathlib.Core.Path.{sym, _∙_}
 use Prim.Native.Nat.{ℕ, _+_, _-_, _<_}
 use native.Mathlib.Omega.{arith}

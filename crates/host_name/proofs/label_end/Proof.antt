@@ -1,4 +1,4 @@
--- The first dot stands where the bytes before it end. Assumes nothing.
+-- The first dot stands where the bytes before it end.
 use mathlib.Core.Path.{_≡_, refl, ap}
 use Prim.Native.Nat.{_+_, _-_, _≤_}
 use native.Mathlib.Omega.{arith}

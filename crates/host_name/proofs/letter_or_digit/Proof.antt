@@ -1,4 +1,4 @@
--- The tests are those of the definition. Assumes nothing.
+-- The tests are those of the definition.
 use mathlib.Core.Path.{refl}
 use Rattle.host_name.proofs.letter_or_digit.Statement.{statement}
 use Rattle.host_name.proofs.letter_or_digit.Tie as tie

@@ -1,4 +1,4 @@
--- The tests are those of the definition. Assumes nothing.
+-- The tests are those of the definition.
 use borrow.Author.Needs.{needs}
 use Rattle.host_name.proofs.name_byte.Statement.{statement}
 use Rattle.host_name.proofs.name_byte.Tie as tie

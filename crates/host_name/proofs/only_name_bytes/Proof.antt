@@ -1,4 +1,4 @@
--- The bytes read so far and those that remain make up the answer. Assumes nothing.
+-- The bytes read so far and those that remain make up the answer.
 use mathlib.Core.Path.{_≡_, refl, sym, _∙_}
 use mathlib.Core.Bool.{_&&_}
 use Prim.Native.Nat.{_-_, _≤_}

@@ -1,4 +1,4 @@
--- The answer for the copy is that for the name. Assumes nothing.
+-- The answer for the copy is that for the name.
 use mathlib.Core.Path.{refl, sym, _∙_}
 use mathlib.Core.Bool.{and-false}
 use native.Mathlib.Omega.{arith}

@@ -3,8 +3,8 @@ use mathlib.Core.Path.{refl, ap, _∙_}
 use Prim.Native.Nat.{_+_}
 use denote.Ref.{now}
 use Rattle.octets.specs.Octets.{part}
-use Rattle.pin_model.specs.Judge.{Connection}
-use Rattle.pin_model.specs.Calls.{judge, folded, answer, areaAfter}
+use Rattle.pin_model.specs.Connection.{Connection}
+use Rattle.pin_model.specs.Calls.{judge, answered, areaLeft}
 use Rattle.night_play.proofs.OneTurn.{call-read, part-between}
 use borrow.Author.Needs.{needs}
 use Rattle.night_play.proofs.judge_call.Statement.{statement}
@@ -12,12 +12,6 @@ use Rattle.night_play.proofs.judge_call.Tie as tie
 
 add-hash-at : tie.Need-add-hash-at
 add-hash-at c = search needs
-
-add-answers : tie.Need-add-answers
-add-answers c = search needs
-
-shared-slice-read-answers : tie.Need-shared-slice-read-answers
-shared-slice-read-answers c = search needs
 
 u32-at-requires : tie.Need-u32-at-requires
 u32-at-requires c κs = search needs
@@ -49,23 +43,14 @@ part-judge-sound-area-start-2 c = search needs
 part-judge-sound-area-end-2 : tie.Need-part-judge-sound-area-end-2
 part-judge-sound-area-end-2 c = search needs
 
-is-yes-requires : tie.Need-is-yes-requires
-is-yes-requires c κs = search needs
+add-checks-at : tie.Need-add-checks-at
+add-checks-at c = search needs
 
-is-yes-requires-2 : tie.Need-is-yes-requires-2
-is-yes-requires-2 c κs = search needs
-
-is-yes-requires-3 : tie.Need-is-yes-requires-3
-is-yes-requires-3 c κs = search needs
-
-add-judge-sound-area-2 : tie.Need-add-judge-sound-area-2
-add-judge-sound-area-2 c = search needs
-
-shared-slice-read-judge-sound-area : tie.Need-shared-slice-read-judge-sound-area
-shared-slice-read-judge-sound-area c = search needs
+checks-at-requires : tie.Need-checks-at-requires
+checks-at-requires c κs = search needs
 
 judge-sound-area-requires : tie.Need-judge-sound-area-requires
-judge-sound-area-requires c κs = c .before .before .before .before .before .before .before .before .before .before .before .before .pre .1
+judge-sound-area-requires c κs = c .before .before .before .before .before .before .before .before .pre .1
 
 same-length : tie.Need-same-length
 same-length c = search needs
@@ -73,18 +58,17 @@ same-length c = search needs
 returns : tie.Need-returns
 unfolding part
 returns c =
-    let a = c .before .before .before .before .before .before .before .before .before .before .before .before .before .before .before .args in
-    let same = call-read (now (a .night)) (a .name-end) (a .extension-came) (a .after) (c .before .before .before .before .before .before .before .before .before .before .u32-at .ensures) refl (c .before .before .before .before .before .before .before .before .extension-at .ensures) (part-between (now (a .night)) (a .name-end + 8) 32) (c .before .before .before .before .before .before .is-yes .ensures) (c .before .before .before .before .before .is-yes2 .ensures) (c .before .before .before .before .is-yes3 .ensures) refl in
+    let a = c .before .before .before .before .before .before .before .before .before .before .before .args in
+    let same = call-read (now (a .night)) (a .name-end) (a .extension-came) (a .after) (c .before .before .before .before .before .before .before .u32-at .ensures) refl
+    (c .before .before .before .before .before .extension-at .ensures) (part-between (now (a .night)) (a .name-end + 8) 32) (c .before .before .before .checks-at .ensures) in
     let e = c .before .before .judge-sound-area .ensures in
-    (e .0 ∙ ap (λ (k : Connection). answer (folded (judge k)) (now (a .area))) same, (e .1 .0 ∙ ap (λ (k : Connection). areaAfter (folded (judge k)) (now (a .area))) same, e .1 .1))
+    (e .0 ∙ ap (λ (k : Connection). answered (judge k) (now (a .area))) same, (e .1 .0 ∙ ap (λ (k : Connection). areaLeft (judge k) (now (a .area))) same, e .1 .1))
 
 pub judge-call-spec : {M : Type 1} → statement M
 judge-call-spec =
     tie.close
     (tie.spec
     add-hash-at
-    add-answers
-    shared-slice-read-answers
     u32-at-requires
     cast-judge-sound-area
     sub-judge-sound-area
@@ -95,11 +79,8 @@ judge-call-spec =
     sub-judge-sound-area-2
     part-judge-sound-area-start-2
     part-judge-sound-area-end-2
-    is-yes-requires
-    is-yes-requires-2
-    is-yes-requires-3
-    add-judge-sound-area-2
-    shared-slice-read-judge-sound-area
+    add-checks-at
+    checks-at-requires
     judge-sound-area-requires
     same-length
     returns)

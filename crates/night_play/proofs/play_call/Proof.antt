@@ -2,7 +2,7 @@
 use native.Mathlib.Omega.{arith}
 use denote.Ref.{now}
 use Rattle.night_report.proofs.Lines.{line-length}
-use Rattle.night_play.proofs.OneTurn.{called, cut, spoilt, placed, cut-within, played-line, played-cut, played-bad}
+use Rattle.night_play.proofs.OneTurn.{judgement-alert, called, cut, spoilt, placed, cut-within, played-line, played-cut, played-bad}
 use borrow.Author.Needs.{needs}
 use Rattle.night_play.proofs.play_call.Statement.{statement}
 use Rattle.night_play.proofs.play_call.Tie as tie
@@ -46,7 +46,7 @@ returns c =
     (called _ _ (c .before .before .before .before .before .before .before .before .before .before .before .before .before .take-call .ensures .0) (c .before .before .before .before .before .before .before .before .before .before .before .name-end .given .1))
     (placed _ _ (c .before .before .before .before .before .before .before .before .before .before .before .before .before .take-call .ensures .1) (c .before .before .before .before .before .before .before .before .before .before .before .name-end .given .1) .within)
     (c .before .before .before .before .before .before .before .before .judge-call .ensures .0) (c .before .before .before .before .before .before .before .before .judge-call .ensures .1 .0)
-    (c .before .before .before .before .before .judgement-number .ensures) (c .before .before .before .has-no-room .ensures) (c .before .before .put-line .ensures) in
+    (c .before .before .before .before .before .judgement-number .ensures) (judgement-alert (c .before .before .before .before .before .before .before .before .judge-call .result)) (c .before .before .before .has-no-room .ensures) (c .before .before .put-line .ensures) in
     let fits = placed _ _ (c .before .before .before .before .before .before .before .before .before .before .before .before .before .take-call .ensures .1) (c .before .before .before .before .before .before .before .before .before .before .before .name-end .given .1) .within in
     let size = line-length (a .index) (c .before .before .before .before .before .judgement-number .result) (c .before .before .before .has-no-room .result) (omega arith) (omega arith) in
     (w .turned, (w .judged, (w .written, (c .before .before .before .before .before .before .before .before .judge-call .ensures .1 .1, (fits, omega (arith, size, c .before .before .put-line .ensures .0))))))

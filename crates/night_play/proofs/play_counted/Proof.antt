@@ -1,4 +1,4 @@
--- `night_play::play_counted` meets its contract, by a walk of its MIR: the slices go to `play_call` for good, at their own lifetimes; then the tally's borrow is opened, the tally is loaded and handed to `turn_counted` with the turn, and the borrow is closed at what that returns. Assumes nothing.
+-- `night_play::play_counted` meets its contract, by a walk of its MIR: the slices go to `play_call` for good, at their own lifetimes; then the tally's borrow is opened, the tally is loaded and handed to `turn_counted` with the turn, and the borrow is closed at what that returns.
 use mathlib.Core.Path.{_≡_, refl}
 use mathlib.Core.Bool.{true}
 use Prim.Native.Nat.{ℕ, _<_, _≤_, _+_, _^_}

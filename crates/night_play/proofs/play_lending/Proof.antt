@@ -1,4 +1,4 @@
--- `night_play::play_lending` meets its contract, by a walk of its MIR: the local's memory is lent to `play_counted` for a lifetime of the call, and is back at the last tally; the slices go to it for good, at their own lifetimes. Assumes nothing.
+-- `night_play::play_lending` meets its contract, by a walk of its MIR: the local's memory is lent to `play_counted` for a lifetime of the call, and is back at the last tally; the slices go to it for good, at their own lifetimes.
 use mathlib.Core.Path.{_≡_, refl}
 use mathlib.Core.Bool.{true}
 use Prim.Native.Nat.{ℕ, _<_, _≤_, _+_, _^_}

@@ -1,4 +1,4 @@
--- The tally after each of a turn's answers. Assumes nothing.
+-- The tally after each of a turn's answers.
 use borrow.Author.Needs.{needs}
 use Rattle.night_play.proofs.Counted.{after-line}
 use Rattle.night_play.proofs.turn_counted.Statement.{statement}

@@ -1,4 +1,4 @@
--- The loop's invariant: the answer for the first i bytes. Assumes nothing.
+-- The loop's invariant: the answer for the first i bytes.
 use mathlib.Core.Path.{_≡_, sym, ap, ap₂, _∙_}
 use mathlib.Core.Bool.{_&&_}
 use Prim.Native.Nat.{_+_, _-_, _≤_}

@@ -1,4 +1,4 @@
--- The tests are those of the definition. Assumes nothing.
+-- The tests are those of the definition.
 use borrow.Author.Needs.{needs}
 use Rattle.padded_name.specs.Neighbours.{neighbours}
 use Rattle.padded_name.proofs.neighbours.Statement.{statement}

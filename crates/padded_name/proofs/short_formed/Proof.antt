@@ -1,4 +1,4 @@
--- Test by test; the zeros from m on are what is left. Assumes nothing.
+-- Test by test; the zeros from m on are what is left.
 use mathlib.Core.Path.{sym, _∙_}
 use mathlib.Core.Bool.{false≢true}
 use native.Mathlib.Omega.{arith}

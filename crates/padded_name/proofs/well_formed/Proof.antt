@@ -1,4 +1,4 @@
--- By the name's length. Assumes nothing.
+-- By the name's length.
 use mathlib.Core.Path.{sym, ap, _∙_}
 use native.Mathlib.Omega.{arith}
 use borrow.Author.Tests.{not-true, not-false}

@@ -1,13 +1,16 @@
 -- The parts that the reader gives are the extension's.
 use mathlib.Core.Path.{sym, _∙_}
 use mathlib.Core.Bool.{Bool, true≢false}
-use mathlib.Core.List.{List}
+use mathlib.Core.List.{List, map}
 use Prim.Native.Nat.{ℕ}
 use borrow.Author.Needs.{needs}
+use Rattle.tack_extension.specs.Tack.{breakKey, breakSignatures}
 use Rattle.pin_model.specs.Layout.{encode, decode}
-use Rattle.pin_tests.proofs.Shown.{malformed}
-use Rattle.pin_judge.specs.Applied.{appliedBy, appliedAnswer}
-use Rattle.pin_judge.proofs.Passing.{sized, by-reading}
+use Rattle.pin_model.specs.Connection.{unlessEmpty}
+use Rattle.pin_model.specs.Judge.{steps}
+use Rattle.pin_refusals.proofs.Shown.{malformed, well-shown}
+use Rattle.pin_judge.specs.Answered.{stepsAnswer}
+use Rattle.pin_judge.proofs.Passing.{by-reading}
 use Rattle.pin_judge.proofs.apply_shown.Statement.{statement}
 use Rattle.pin_judge.proofs.apply_shown.Tie as tie
 
@@ -34,7 +37,7 @@ breaks-part-requires c κs = search needs
 apply-requires : tie.Need-apply-requires
 apply-requires c κs =
     let s = c .before .before .before .before .before .before .before .before .before .before in
-    let z = sized (s .args .extension .now) _ (sym (c .before .before .before .before .before .before .read .ensures) ∙ c .before .before .before .before .activation .given .1) in
+    let z = well-shown (s .args .extension .now) _ (sym (c .before .before .before .before .before .before .read .ensures) ∙ c .before .before .before .before .activation .given .1) in
     (s .pre .0, rw (c .before .tack-part .ensures) (z .tack), rw (c .breaks-part .ensures) (z .breaks))
 
 same-length : tie.Need-same-length
@@ -47,8 +50,8 @@ returns-2 c =
     let tack = c .before .before .before .before .tack-part .ensures in
     let breaks = c .before .before .before .breaks-part .ensures in
     let w = c .before .before .apply .ensures in (
-      w .0 ∙ by-reading (λ (on : Bool) (x y : List ℕ). appliedAnswer on (a .name .now) (a .clock .0) x y (decode (a .area .now))) (a .extension .now) _ reading tack breaks,
-      w .1 ∙ by-reading (λ (on : Bool) (x y : List ℕ). encode (appliedBy on (a .name .now) (a .clock .0) x y (decode (a .area .now)))) (a .extension .now) _ reading tack breaks,
+      w .0 ∙ by-reading (λ (on : Bool) (x y : List ℕ). stepsAnswer on (a .name .now) (a .clock .0) (unlessEmpty x) (map breakKey (breakSignatures y)) (decode (a .area .now))) (a .extension .now) _ reading tack breaks,
+      w .1 ∙ by-reading (λ (on : Bool) (x y : List ℕ). encode (steps on (a .name .now) (a .clock .0) (unlessEmpty x) (map breakKey (breakSignatures y)) (decode (a .area .now)))) (a .extension .now) _ reading tack breaks,
     )
 
 pub apply-shown-spec : {M : Type 1} → statement M

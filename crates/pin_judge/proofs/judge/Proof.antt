@@ -1,4 +1,4 @@
--- The area's refusals; on a sound area the rest. Assumes nothing.
+-- The area's refusals; on a sound area the rest.
 use mathlib.Core.Path.{sym, ap, _∙_}
 use mathlib.Core.List.{[]}
 use borrow.Author.Needs.{needs}

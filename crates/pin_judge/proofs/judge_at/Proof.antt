@@ -10,8 +10,8 @@ use Rattle.pin_judge.proofs.judge_at.Tie as tie
 apply-shown-requires : tie.Need-apply-shown-requires
 apply-shown-requires c κs = (search passed-in-order, search passed-read)
 
-check-shown-requires : tie.Need-check-shown-requires
-check-shown-requires c κs = search needs
+check-connection-requires : tie.Need-check-connection-requires
+check-connection-requires c κs = search needs
 
 enum-known-refusal : tie.Need-enum-known-refusal
 enum-known-refusal c = search needs
@@ -23,8 +23,8 @@ returns : tie.Need-returns
 returns c =
     let s = c .before .before .before .before .before .before .before .before .before in
     let a = s .args in
-    refused-shown (a .clock .0) (a .name .now) (a .extension .now) (a .hash .now) (a .handshake-finished) (a .key-is-point) (a .signature-correct) (a .breaks-correct) (a .area .now) (s .pre .0) (s .pre .1) _
-    (sym (c .before .before .before .check-shown .ensures) ∙ ap checkedNumber (c .before .refusal .given .1))
+    refused-shown (a .clock .0) (a .name .now) (a .extension .now) (a .hash .now) (a .checks) (a .area .now) (s .pre .0) (s .pre .1) _
+    (sym (c .before .before .before .check-connection .ensures) ∙ ap checkedNumber (c .before .refusal .given .1))
 
 enum-told : tie.Need-enum-told
 enum-told c = search needs
@@ -36,14 +36,14 @@ returns-2 : tie.Need-returns-2
 returns-2 c =
     let s = c .before .before .before .before .before .before .before .before .before .before .before .before in
     let a = s .args in
-    judged-so (a .clock .0) (a .name .now) (a .extension .now) (a .hash .now) (a .handshake-finished) (a .key-is-point) (a .signature-correct) (a .breaks-correct) (a .area .now) (s .pre .0) (s .pre .1)
-    (sym (c .before .before .before .before .before .before .check-shown .ensures) ∙ ap checkedNumber (c .before .before .before .before .enum-told .given .1)) _ _ (c .before .before .apply-shown .ensures)
+    judged-so (a .clock .0) (a .name .now) (a .extension .now) (a .hash .now) (a .checks) (a .area .now) (s .pre .0) (s .pre .1)
+    (sym (c .before .before .before .before .before .before .check-connection .ensures) ∙ ap checkedNumber (c .before .before .before .before .enum-told .given .1)) _ _ (c .before .before .apply-shown .ensures)
 
 pub judge-at-spec : {M : Type 1} → statement M
 judge-at-spec =
     tie.close
     (tie.spec
-    check-shown-requires
+    check-connection-requires
     enum-known-refusal
     same-length
     returns

@@ -1,4 +1,4 @@
--- With an extension or without one. Assumes nothing.
+-- With an extension or without one.
 use mathlib.Core.Path.{_∙_}
 use borrow.Author.Needs.{needs}
 use Rattle.pin_judge.proofs.ByParts.{absent-answer, absent-area}
@@ -30,8 +30,8 @@ returns-2 c =
     let s = c .before .before .before .before .before .before .before .before .before .before in
     let w = c .before .before .judge-shown2 .ensures in
     rw (c .before .before .before .before .before .if1 .left) (
-      w .0 ∙ absent-answer (s .args .clock) (s .args .name .now) (s .args .hash .now) (s .args .handshake-finished) (s .args .key-is-point) (s .args .signature-correct) (s .args .breaks-correct) (s .args .extension .now) (s .args .area .now),
-      w .1 ∙ absent-area (s .args .clock) (s .args .name .now) (s .args .hash .now) (s .args .handshake-finished) (s .args .key-is-point) (s .args .signature-correct) (s .args .breaks-correct) (s .args .extension .now) (s .args .area .now),
+      w .0 ∙ absent-answer (s .args .clock) (s .args .name .now) (s .args .hash .now) (s .args .checks) (s .args .extension .now) (s .args .area .now),
+      w .1 ∙ absent-area (s .args .clock) (s .args .name .now) (s .args .hash .now) (s .args .checks) (s .args .extension .now) (s .args .area .now),
     )
 
 pub judge-folded-spec : {M : Type 1} → statement M

@@ -2,9 +2,8 @@
 use mathlib.Core.Path.{sym, _∙_}
 use borrow.Author.Needs.{needs}
 use borrow.Author.Tests.{not-true, not-false}
-use Rattle.pin_checks.proofs.Passed.{area-passes, named-malformed, named-passes}
-use Rattle.pin_checks.proofs.Clocks.{above, within}
-use Rattle.pin_judge.proofs.Passing.{refused-named, refused-late, sound-admitted}
+use Rattle.pin_refusals.proofs.Clocks.{above, within}
+use Rattle.pin_judge.proofs.Passing.{refused-name, refused-late, sound-admitted}
 use Rattle.pin_judge.proofs.judge_shown.Statement.{statement}
 use Rattle.pin_judge.proofs.judge_shown.Tie as tie
 
@@ -15,8 +14,8 @@ returns : tie.Need-returns
 returns c =
     let s = c .before .before .before .before .before .before in
     let a = s .args in
-    refused-named (a .clock) (a .name .now) (a .extension .now) (a .hash .now) (a .handshake-finished) (a .key-is-point) (a .signature-correct) (a .breaks-correct) (a .area .now) (s .pre .1) 12
-    (named-malformed (a .area .now) (a .name .now) (area-passes (a .area .now) (s .pre .0)) (sym (c .before .well-formed .ensures) ∙ not-true _ (c .if1 .taken)))
+    refused-name (a .clock) (a .name .now) (a .extension .now) (a .hash .now) (a .checks) (a .area .now) (s .pre .0) (s .pre .1)
+    (sym (c .before .well-formed .ensures) ∙ not-true _ (c .if1 .taken))
 
 of-clock-requires : tie.Need-of-clock-requires
 of-clock-requires c κs = search needs
@@ -32,7 +31,7 @@ returns-2 c =
     let s = c .before .before .before .before .before .before .before .before .before in
     let a = s .args in
     let formed = sym (c .before .before .before .before .well-formed .ensures) ∙ not-false _ (c .before .before .before .if1 .left) in
-    refused-late (a .clock) (a .name .now) (a .extension .now) (a .hash .now) (a .handshake-finished) (a .key-is-point) (a .signature-correct) (a .breaks-correct) (a .area .now) (s .pre .1) (named-passes (a .area .now) (a .name .now) (area-passes (a .area .now) (s .pre .0)) formed)
+    refused-late (a .clock) (a .name .now) (a .extension .now) (a .hash .now) (a .checks) (a .area .now) (s .pre .0) (s .pre .1) formed
     (above _ (sym (c .enum-told .given .1) ∙ c .before .before .of-clock .ensures))
 
 judge-at-requires : tie.Need-judge-at-requires

@@ -1,4 +1,4 @@
--- 27; else the name that is handed on is the folded one, cut at 254 bytes. What judging leaves of a sound area is sound. Assumes nothing.
+-- 27; else the name that is handed on is the folded one, cut at 254 bytes. What judging leaves of a sound area is sound.
 use mathlib.Core.Path.{sym, ap, _∙_}
 use mathlib.Core.List.{List}
 use Prim.Native.Nat.{ℕ}
@@ -6,14 +6,13 @@ use native.Mathlib.Omega.{arith}
 use lib.ListN.{length-take}
 use lib.Seq.{length-take-le}
 use borrow.Author.Needs.{needs}
-use Rattle.host_name.specs.Folding.{foldedName}
 use Rattle.host_name.proofs.Folded.{front, room}
 use Rattle.pin_model.specs.Sound.{sound}
-use Rattle.pin_model.specs.Judge.{connection}
-use Rattle.pin_model.specs.Calls.{judge, named, answer, areaAfter}
+use Rattle.pin_model.specs.Connection.{connection, named}
+use Rattle.pin_model.specs.Calls.{judge, answer, areaAfter}
 use Rattle.pin_model.proofs.Rules.{rules-of}
-use Rattle.pin_model.proofs.AreaKept.{area-keeps}
-use Rattle.pin_model.proofs.LongNames.{cut-judge}
+use Rattle.pin_model.proofs.AreaKept.{left-keeps}
+use Rattle.pin_model.proofs.LongNames.{judge-handed}
 use Rattle.pin_judge.proofs.Passing.{refused-edition}
 use Rattle.pin_judge.proofs.judge_sound_area.Statement.{statement}
 use Rattle.pin_judge.proofs.judge_sound_area.Tie as tie
@@ -52,13 +51,13 @@ returns-2 : tie.Need-returns-2
 returns-2 c =
     let s = c .before .before .before .before .before .before .before .before .before .before .before .before .before .before .before in
     let a = s .args in
-    let whole = connection (a .clock) (a .name .now) (a .extension-came) (a .extension .now) (a .hash .now) (a .handshake-finished) (a .key-is-point) (a .signature-correct) (a .breaks-correct) in
+    let whole = connection (a .clock) (a .name .now) (a .extension-came) (a .extension .now) (a .hash .now) (a .checks) in
     let its = front (a .name .now) (c .before .before .before .before .before .before .fold .ensures) in
-    let same = cut-judge whole (foldedName (a .name .now)) (a .area .now) in
+    let same = judge-handed whole (a .area .now) in
     let w = c .before .before .judge-folded .ensures in
     let area = w .1 ∙ ap (λ (name : List ℕ). areaAfter (judge (named name whole)) (a .area .now)) its ∙ same .1 in (
       w .0 ∙ ap (λ (name : List ℕ). answer (judge (named name whole)) (a .area .now)) its ∙ same .0,
-      (area, ap sound area ∙ area-keeps _ _ (s .pre)),
+      (area, ap sound area ∙ left-keeps _ _ (s .pre)),
     )
 
 pub judge-sound-area-spec : {M : Type 1} → statement M

@@ -2,14 +2,12 @@
 use mathlib.Core.Path.{sym, ap, _∙_}
 use mathlib.Core.Bool.{true, false}
 use borrow.Author.Needs.{needs}
-use Rattle.pin_model.specs.Table.{Table}
 use Rattle.pin_model.specs.Layout.{decode}
-use Rattle.pin_model.specs.Judge.{raise}
-use Rattle.pin_steps.specs.Steps.{extendBy}
+use Rattle.pin_model.specs.Judge.{raise, extend}
 use Rattle.pin_records.proofs.HeldSlots.{holds-decode, holds-stored}
-use Rattle.pin_tests.proofs.Shown.{not-shown, shown, tack-length}
+use Rattle.pin_model.proofs.TackShown.{not-shown, shown, whole-length}
 use Rattle.pin_judge.proofs.Learnt.{not-extended}
-use Rattle.pin_judge.proofs.Steps.{raised-begun, nothing-shown, ready-to-create, created}
+use Rattle.pin_judge.proofs.Steps.{ready-to-extend, nothing-shown, ready-to-create, created}
 use Rattle.pin_judge.proofs.learn.Statement.{statement}
 use Rattle.pin_judge.proofs.learn.Tie as tie
 
@@ -23,17 +21,17 @@ returns c =
 raise-floor-requires : tie.Need-raise-floor-requires
 raise-floor-requires c κs =
     let s = c .before .before .before .before .before in
-    (s .pre .0 .admitted .stored, tack-length _ (s .pre .1) (c .before .if1 .left))
+    (s .pre .0 .admitted .stored, whole-length _ (s .pre .1) (c .before .if1 .left))
 
 extend-pin-requires : tie.Need-extend-pin-requires
 extend-pin-requires c κs =
     let s = c .before .before .before .before .before .before .before .before .before .before in
-    let raised = c .before .before .before .before .raise-floor .ensures in (
+    let raised = c .before .before .before .before .raise-floor .ensures in
+    let ready = ready-to-extend (s .args .tack .now) _ (holds-decode raised) (s .pre .0) in (
       holds-stored raised,
-      tack-length _ (s .pre .1) (c .before .before .before .before .before .before .if1 .left),
-      s .pre .0 .admitted .clockInLimit,
-      raised-begun (s .args .tack .now) _ (holds-decode raised) (s .pre .0),
-      ap (λ (t : Table). t .two) (holds-decode raised) ∙ s .pre .0 .admitted .ofOne,
+      whole-length _ (s .pre .1) (c .before .before .before .before .before .before .if1 .left),
+      ready .0,
+      ready .1,
     )
 
 create-record-requires : tie.Need-create-record-requires
@@ -41,10 +39,10 @@ create-record-requires c κs =
     let s = c .before .before .before .before .before .before .before .before .before .before .before .before .before .before in
     let a = s .args in
     let k = s .pre .0 in
-    let its = holds-decode (c .before .before .before .extend-pin .ensures) ∙ ap (extendBy true (a .name .now) (a .tack .now) (a .clock .0)) (holds-decode (c .before .before .before .before .before .before .before .before .raise-floor .ensures)) in
+    let its = holds-decode (c .before .before .before .extend-pin .ensures) ∙ ap (extend true (a .name .now) (a .clock .0) (a .tack .now)) (holds-decode (c .before .before .before .before .before .before .before .before .raise-floor .ensures)) in
     let ready = ready-to-create true (a .name .now) (a .clock .0) (a .tack .now) (decode (a .area .now)) _ its (k .admitted .tableSound) (k .admitted .ofOne) (k .clockInOrder) (k .admitted .clockInLimit) in (
       holds-stored (c .before .before .before .extend-pin .ensures),
-      tack-length _ (s .pre .1) (c .before .before .before .before .before .before .before .before .before .before .if1 .left),
+      whole-length _ (s .pre .1) (c .before .before .before .before .before .before .before .before .before .before .if1 .left),
       k .admitted .nameFormed,
       ready .0,
       ready .1,
@@ -56,7 +54,7 @@ same-length c = search needs
 returns-2 : tie.Need-returns-2
 returns-2 c =
     let a = c .before .before .before .before .before .before .before .before .before .before .before .before .before .before .before .before .before .args in
-    let its = holds-decode (c .before .before .before .before .before .before .extend-pin .ensures) ∙ ap (extendBy true (a .name .now) (a .tack .now) (a .clock .0)) (holds-decode (c .before .before .before .before .before .before .before .before .before .before .before .raise-floor .ensures)) in
+    let its = holds-decode (c .before .before .before .before .before .before .extend-pin .ensures) ∙ ap (extend true (a .name .now) (a .clock .0) (a .tack .now)) (holds-decode (c .before .before .before .before .before .before .before .before .before .before .before .raise-floor .ensures)) in
     rw (c .before .before .before .before .before .before .before .before .if2 .taken)
     (created true (a .name .now) (a .clock .0) (a .tack .now) (decode (a .area .now)) _ its (shown (a .tack .now) (c .before .before .before .before .before .before .before .before .before .before .before .before .before .if1 .left)) (c .before .before .create-record .ensures))
 
@@ -69,7 +67,7 @@ create-record-requires-2 c κs =
     let its = holds-decode raised ∙ sym (not-extended (a .name .now) (a .tack .now) (a .clock .0) (raise (a .tack .now) (decode (a .area .now)))) in
     let ready = ready-to-create false (a .name .now) (a .clock .0) (a .tack .now) (decode (a .area .now)) _ its (k .admitted .tableSound) (k .admitted .ofOne) (k .clockInOrder) (k .admitted .clockInLimit) in (
       holds-stored raised,
-      tack-length _ (s .pre .1) (c .before .before .before .before .before .before .if1 .left),
+      whole-length _ (s .pre .1) (c .before .before .before .before .before .before .if1 .left),
       k .admitted .nameFormed,
       ready .0,
       ready .1,

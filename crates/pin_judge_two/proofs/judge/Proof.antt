@@ -7,13 +7,12 @@ use lib.Seq.{length-take-le}
 use denote.Ref.{now}
 use borrow.Author.Needs.{needs}
 use borrow.Author.Tests.{not-true, not-false}
-use Rattle.host_name.specs.Folding.{foldedName}
 use Rattle.host_name.proofs.Folded.{front, room}
-use Rattle.pin_model.specs.JudgeTwo.{connectionTwo}
+use Rattle.pin_model.specs.Connection.{connection, foldedConnection}
 use Rattle.pin_model.proofs.Rules.{rules-of}
 use Rattle.pin_model.proofs.Refusals.{area-facts}
 use Rattle.pin_answers.specs.Numbers.{checkedNumber}
-use Rattle.pin_judge_two.proofs.PassingTwo.{refused-area, refused-edition, uncut}
+use Rattle.pin_judge_two.proofs.PassingTwo.{refused-area, refused-edition, as-it-came, uncut}
 use Rattle.pin_judge_two.proofs.judge.Statement.{statement}
 use Rattle.pin_judge_two.proofs.judge.Tie as tie
 
@@ -27,7 +26,12 @@ same-length : tie.Need-same-length
 same-length c = search needs
 
 returns : tie.Need-returns
-returns c = refused-area _ _ _ (sym (c .before .before .before .check-area .ensures) ∙ ap checkedNumber (c .before .refusal .given .1))
+returns c =
+    let s = c .before .before .before .before .before .before .before .before .before in
+    let it = connection (s .args .clock) (now (s .args .name)) (s .args .extension-came) (now (s .args .extension))
+    (now (s .args .hash)) (s .args .checks) in
+    let number = sym (c .before .before .before .check-area .ensures) ∙ ap checkedNumber (c .before .refusal .given .1) in
+    as-it-came it (now (s .args .area)) (refused-area (foldedConnection it) (now (s .args .area)) _ number)
 
 enum-told : tie.Need-enum-told
 enum-told c = search needs
@@ -43,7 +47,12 @@ same-length-2 c = search needs
 returns-2 : tie.Need-returns-2
 returns-2 c =
     let s = c .before .before .before .before .before .before .before .before .before .before .before in
-    refused-edition _ _ (area-facts (now (s .args .area)) [] (sym (c .before .before .before .before .before .check-area .ensures) ∙ ap checkedNumber (c .before .before .before .enum-told .given .1)) .areaSound) (sym (c .before .is-two .ensures) ∙ not-true _ (c .if1 .taken))
+    let it = connection (s .args .clock) (now (s .args .name)) (s .args .extension-came) (now (s .args .extension))
+    (now (s .args .hash)) (s .args .checks) in
+    let passed = sym (c .before .before .before .before .before .check-area .ensures) ∙ ap checkedNumber (c .before .before .before .enum-told .given .1) in
+    as-it-came it (now (s .args .area))
+    (refused-edition (foldedConnection it) (now (s .args .area)) (area-facts (now (s .args .area)) [] passed .areaSound)
+    (sym (c .before .is-two .ensures) ∙ not-true _ (c .if1 .taken)))
 
 fold-requires : tie.Need-fold-requires
 fold-requires c κs = search needs
@@ -68,10 +77,11 @@ same-length-3 c = search needs
 returns-3 : tie.Need-returns-3
 returns-3 c =
     let s = c .before .before .before .before .before .before .before .before .before .before .before .before .before .before .before .before .before .before .before in
-    let whole = connectionTwo (s .args .clock) (now (s .args .name)) (s .args .extension-came) (now (s .args .extension)) (now (s .args .hash)) (s .args .handshake-finished) (s .args .first-is-point) (s .args .first-correct) (s .args .second-is-point) (s .args .second-correct) in
+    let it = connection (s .args .clock) (now (s .args .name)) (s .args .extension-came) (now (s .args .extension))
+    (now (s .args .hash)) (s .args .checks) in
     let its = front (now (s .args .name)) (c .before .before .before .before .before .before .fold .ensures) in
     let w = c .before .before .judge-folded .ensures in
-    uncut whole (foldedName (now (s .args .name))) (now (s .args .area)) its (w .0) (w .1)
+    uncut it (now (s .args .area)) its (w .0) (w .1)
 
 pub judge-spec : {M : Type 1} → statement M
 judge-spec =

@@ -3,8 +3,8 @@ use mathlib.Core.Path.{sym, _∙_}
 use denote.Ref.{now}
 use borrow.Author.Needs.{needs}
 use borrow.Author.Tests.{not-true, not-false}
-use Rattle.pin_model.specs.JudgeTwo.{connectionTwo}
-use Rattle.pin_checks.proofs.Clocks.{above, within}
+use Rattle.pin_model.specs.Connection.{connection}
+use Rattle.pin_refusals.proofs.Clocks.{above, within}
 use Rattle.pin_judge_two.proofs.PassingTwo.{admitted, refused-name, refused-limit}
 use Rattle.pin_judge_two.proofs.judge_folded.Statement.{statement}
 use Rattle.pin_judge_two.proofs.judge_folded.Tie as tie
@@ -15,7 +15,8 @@ well-formed-requires c κs = search needs
 returns : tie.Need-returns
 returns c =
     let s = c .before .before .before .before .before .before in
-    let it = connectionTwo (s .args .clock) (now (s .args .name)) (s .args .extension-came) (now (s .args .extension)) (now (s .args .hash)) (s .args .handshake-finished) (s .args .first-is-point) (s .args .first-correct) (s .args .second-is-point) (s .args .second-correct) in
+    let it = connection (s .args .clock) (now (s .args .name)) (s .args .extension-came) (now (s .args .extension))
+    (now (s .args .hash)) (s .args .checks) in
     refused-name it (now (s .args .area)) (s .pre .0) (s .pre .1) (sym (c .before .well-formed .ensures) ∙ not-true _ (c .if1 .taken))
 
 of-clock-requires : tie.Need-of-clock-requires
@@ -30,7 +31,8 @@ enum-told c = search needs
 returns-2 : tie.Need-returns-2
 returns-2 c =
     let s = c .before .before .before .before .before .before .before .before .before in
-    let it = connectionTwo (s .args .clock) (now (s .args .name)) (s .args .extension-came) (now (s .args .extension)) (now (s .args .hash)) (s .args .handshake-finished) (s .args .first-is-point) (s .args .first-correct) (s .args .second-is-point) (s .args .second-correct) in
+    let it = connection (s .args .clock) (now (s .args .name)) (s .args .extension-came) (now (s .args .extension))
+    (now (s .args .hash)) (s .args .checks) in
     refused-limit it (now (s .args .area)) (s .pre .0) (s .pre .1) (sym (c .before .before .before .before .well-formed .ensures) ∙ not-false _ (c .before .before .before .if1 .left))
     (above _ (sym (c .enum-told .given .1) ∙ c .before .before .of-clock .ensures))
 

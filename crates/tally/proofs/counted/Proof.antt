@@ -1,4 +1,4 @@
--- `tally::counted` meets its contract: a number from 32 on has no count, and one below has its count raised. Assumes nothing.
+-- `tally::counted` meets its contract: a number from 32 on has no count, and one below has its count raised.
 use mathlib.Core.Path.{sym, ap}
 use lib.ListN.{set}
 use lib.Seq.{set-out}

@@ -1,4 +1,4 @@
--- `tally::empty` meets its contract. Assumes nothing.
+-- `tally::empty` meets its contract.
 use mathlib.Core.Path.{refl}
 use Rattle.tally.specs.Tally.{tallied}
 use Rattle.tally.proofs.empty.Statement.{statement}

@@ -1,4 +1,4 @@
--- `tally::times` meets its contract: a number from 32 on has no count. Assumes nothing.
+-- `tally::times` meets its contract: a number from 32 on has no count.
 use mathlib.Core.Path.{sym}
 use lib.ListN.{List·getD-eq-default}
 use borrow.Author.Needs.{needs}

@@ -1,4 +1,4 @@
--- The measure is the number. Assumes nothing.
+-- The measure is the number.
 use Prim.Native.Nat.{ℕ, _<_}
 use native.Mathlib.Omega.{arith}
 use denote.Ref.{now}

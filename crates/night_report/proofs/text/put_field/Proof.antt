@@ -1,4 +1,4 @@
--- The number, and the other piece behind it. Assumes nothing.
+-- The number, and the other piece behind it.
 use native.Mathlib.Omega.{arith}
 use lib.ListN.{length-append}
 use denote.Ref.{now}

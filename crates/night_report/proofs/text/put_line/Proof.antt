@@ -1,4 +1,4 @@
--- Four fields, each behind the one before it, are the line. Assumes nothing.
+-- Four fields, each behind the one before it, are the line.
 use native.Mathlib.Omega.{arith}
 use denote.Ref.{now}
 use borrow.Author.Needs.{needs}

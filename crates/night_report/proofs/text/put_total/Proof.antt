@@ -1,4 +1,4 @@
--- The word, and the number behind it. Assumes nothing.
+-- The word, and the number behind it.
 use native.Mathlib.Omega.{arith}
 use denote.Ref.{now}
 use borrow.Author.Needs.{needs}

@@ -6,10 +6,9 @@ use native.Mathlib.Omega.{arith}
 use lib.ListN.{length-take}
 use lib.Seq.{length-take-le}
 use borrow.Author.Needs.{needs}
-use Rattle.host_name.specs.Folding.{foldedName}
 use Rattle.host_name.proofs.Folded.{front, room}
 use Rattle.pin_model.specs.Calls.{delete, answer, areaAfter}
-use Rattle.pin_model.proofs.LongNames.{cut-delete}
+use Rattle.pin_model.proofs.LongNames.{delete-handed}
 use Rattle.pin_manage.proofs.deletion.delete.Statement.{statement}
 use Rattle.pin_manage.proofs.deletion.delete.Tie as tie
 
@@ -35,7 +34,7 @@ returns : tie.Need-returns
 returns c =
     let a = c .before .before .before .before .before .before .before .before .before .before .args in
     let its = front (a .name .now) (c .before .before .before .before .before .before .fold .ensures) in
-    let same = cut-delete (foldedName (a .name .now)) (a .area .now) in
+    let same = delete-handed (a .name .now) (a .area .now) in
     let w = c .before .before .delete-folded .ensures in (
       w .0 ∙ ap (λ (name : List ℕ). answer (delete name) (a .area .now)) its ∙ same .0,
       w .1 ∙ ap (λ (name : List ℕ). areaAfter (delete name) (a .area .now)) its ∙ same .1,

@@ -3,12 +3,14 @@ use mathlib.Core.Path.{sym, ap, _∙_}
 use borrow.Author.Needs.{needs}
 use Rattle.pin_model.specs.Table.{nameIs}
 use Rattle.pin_model.specs.Layout.{decode}
+use Rattle.pin_model.specs.Fits.{holds}
+use Rattle.pin_model.specs.Refusals.{nameTest}
 use Rattle.pin_model.specs.Calls.{refusal, delete}
 use Rattle.pin_answers.specs.Numbers.{checkedNumber}
-use Rattle.pin_records.specs.Find.{holds, firstSlot}
+use Rattle.pin_records.specs.Find.{firstSlot}
 use Rattle.pin_records.proofs.HeldSlots.{holds-stored}
 use Rattle.pin_records.proofs.Found.{name-there, name-found-at, name-absent}
-use Rattle.pin_checks.proofs.Passed.{call-refused, ready-named}
+use Rattle.pin_refusals.proofs.Passed.{call-refused, ready}
 use Rattle.pin_manage.proofs.Deleted.{delete-nothing, delete-found}
 use Rattle.pin_manage.proofs.deletion.delete_folded.Statement.{statement}
 use Rattle.pin_manage.proofs.deletion.delete_folded.Tie as tie
@@ -35,7 +37,7 @@ find-name-requires : tie.Need-find-name-requires
 find-name-requires c κs =
     let p = c .before in
     let a = p .before .before .before .before .before .before .args in
-    ready-named (a .area .now) (a .name .now) (λ i. p .before .before .before .before .before .slice-known .given i .fits) (sym (p .before .before .check-name .ensures) ∙ ap checkedNumber (p .enum-told .given .1)) .stored
+    ready (a .area .now) (nameTest (a .name .now)) (λ i. p .before .before .before .before .before .slice-known .given i .fits) (sym (p .before .before .check-name .ensures) ∙ ap checkedNumber (p .enum-told .given .1)) .stored
 
 enum-known-first : tie.Need-enum-known-first
 enum-known-first c = search needs
@@ -52,7 +54,7 @@ returns-2 c =
     let p = c .before .before .before .before in
     let a = p .before .before .before .before .before .before .args in
     let passed = sym (p .before .before .check-name .ensures) ∙ ap checkedNumber (p .enum-told .given .1) in
-    let w = ready-named (a .area .now) (a .name .now) (λ i. p .before .before .before .before .before .slice-known .given i .fits) passed in
+    let w = ready (a .area .now) (nameTest (a .name .now)) (λ i. p .before .before .before .before .before .slice-known .given i .fits) passed in
     delete-nothing (a .area .now) (a .name .now) passed (w .stored)
     (name-absent (decode (a .area .now) .names) (w .stored .fits .nameSlots) (a .name .now) (sym (c .enum-told2 .given .1) ∙ c .before .before .find-name .ensures))
 
@@ -60,7 +62,7 @@ drop-records-requires : tie.Need-drop-records-requires
 drop-records-requires c κs =
     let p = c .before .before .before .before .before .before in
     let a = p .before .before .before .before .before .before .args in
-    let w = ready-named (a .area .now) (a .name .now) (λ i. p .before .before .before .before .before .slice-known .given i .fits) (sym (p .before .before .check-name .ensures) ∙ ap checkedNumber (p .enum-told .given .1)) in
+    let w = ready (a .area .now) (nameTest (a .name .now)) (λ i. p .before .before .before .before .before .slice-known .given i .fits) (sym (p .before .before .check-name .ensures) ∙ ap checkedNumber (p .enum-told .given .1)) in
     (w .stored, name-there (firstSlot (holds (nameIs (a .name .now))) (decode (a .area .now) .names)) _ (sym (c .before .before .first .given .1) ∙ c .before .before .before .before .find-name .ensures) .1)
 
 drop-unnamed-requires : tie.Need-drop-unnamed-requires
@@ -76,7 +78,7 @@ returns-3 c =
     let p = f .before .before .before .before in
     let a = p .before .before .before .before .before .before .args in
     let passed = sym (p .before .before .check-name .ensures) ∙ ap checkedNumber (p .enum-told .given .1) in
-    let w = ready-named (a .area .now) (a .name .now) (λ i. p .before .before .before .before .before .slice-known .given i .fits) passed in
+    let w = ready (a .area .now) (nameTest (a .name .now)) (λ i. p .before .before .before .before .before .slice-known .given i .fits) passed in
     let found = name-found-at (decode (a .area .now) .names) (w .stored .fits .nameSlots) (a .name .now) _ (sym (f .first .given .1) ∙ f .before .before .find-name .ensures) in
     delete-found (a .area .now) (a .name .now) passed (found .recorded) _ _ (c .before .before .before .before .before .before .drop-records .ensures) (c .before .before .drop-unnamed .ensures)
 

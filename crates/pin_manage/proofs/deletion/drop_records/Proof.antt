@@ -6,8 +6,8 @@ use native.Mathlib.Omega.{arith}
 use borrow.Author.Needs.{needs}
 use Rattle.pin_model.specs.Table.{nameIs}
 use Rattle.pin_model.specs.Layout.{decode}
+use Rattle.pin_model.specs.Fits.{holds}
 use Rattle.pin_records.specs.Holds.{Holds}
-use Rattle.pin_records.specs.Find.{holds}
 use Rattle.pin_records.proofs.Placed.{first-before}
 use Rattle.pin_records.proofs.HeldSlots.{holds-stored}
 use Rattle.pin_records.proofs.DroppedNames.{dropped, drop-start, drop-stays, drop-goes, drop-end}

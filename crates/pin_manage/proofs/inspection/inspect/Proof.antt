@@ -6,10 +6,9 @@ use native.Mathlib.Omega.{arith}
 use lib.ListN.{length-take}
 use lib.Seq.{length-take-le}
 use borrow.Author.Needs.{needs}
-use Rattle.host_name.specs.Folding.{foldedName}
 use Rattle.host_name.proofs.Folded.{front, room}
 use Rattle.pin_model.specs.Calls.{inspect, answer}
-use Rattle.pin_model.proofs.LongNames.{cut-inspect}
+use Rattle.pin_model.proofs.LongNames.{inspect-handed}
 use Rattle.pin_manage.proofs.inspection.inspect.Statement.{statement}
 use Rattle.pin_manage.proofs.inspection.inspect.Tie as tie
 
@@ -34,7 +33,7 @@ returns c =
     let its = front (a .name .now) (c .before .before .before .fold .ensures) in
     c .inspect-folded .ensures
     ∙ ap (λ (name : List ℕ). answer (inspect (a .second) name (a .clock)) (a .area .now)) its
-    ∙ cut-inspect (a .second) (a .clock) (foldedName (a .name .now)) (a .area .now) .0
+    ∙ inspect-handed (a .second) (a .name .now) (a .clock) (a .area .now) .0
 
 pub inspect-spec : {M : Type 1} → statement M
 inspect-spec =

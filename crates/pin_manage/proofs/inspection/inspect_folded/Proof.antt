@@ -5,9 +5,10 @@ use Prim.Native.Nat.{ℕ}
 use lib.ListN.{getD}
 use borrow.Author.Needs.{needs}
 use Rattle.pin_model.specs.Layout.{decode}
+use Rattle.pin_model.specs.Refusals.{nameTest}
 use Rattle.pin_answers.specs.Numbers.{checkedNumber}
-use Rattle.pin_checks.proofs.Passed.{ready-named}
-use Rattle.pin_checks.proofs.Clocks.{above, within}
+use Rattle.pin_refusals.proofs.Passed.{ready}
+use Rattle.pin_refusals.proofs.Clocks.{above, within}
 use Rattle.pin_manage.specs.Inspected.{inspectedSlot}
 use Rattle.pin_manage.proofs.Looked.{inspect-refused, inspect-late, inspect-nothing, inspect-found, record-used}
 use Rattle.pin_manage.proofs.inspection.inspect_folded.Statement.{statement}
@@ -47,7 +48,7 @@ find-record-requires : tie.Need-find-record-requires
 find-record-requires c κs =
     let p = c .before .before .before .before in
     let a = p .before .before .before .before .before .args in
-    ready-named (a .area .now) (a .name .now) (λ i. p .before .before .before .before .shared-slice-known .given i .fits) (sym (p .before .before .check-name .ensures) ∙ ap checkedNumber (p .enum-told .given .1)) .stored
+    ready (a .area .now) (nameTest (a .name .now)) (λ i. p .before .before .before .before .shared-slice-known .given i .fits) (sym (p .before .before .check-name .ensures) ∙ ap checkedNumber (p .enum-told .given .1)) .stored
 
 enum-known-n : tie.Need-enum-known-n
 enum-known-n c = search needs
@@ -63,14 +64,14 @@ returns-3 c =
     let passed = sym (p .before .before .check-name .ensures) ∙ ap checkedNumber (p .enum-told .given .1) in
     let t = within (a .clock) (q .at .given .0 .0) (sym (q .at .given .1) ∙ q .before .before .of-clock .ensures) in
     inspect-nothing (a .second) (a .area .now) (a .name .now) (a .clock) passed (t .passes)
-    (ready-named (a .area .now) (a .name .now) (λ i. p .before .before .before .before .shared-slice-known .given i .fits) passed .stored)
+    (ready (a .area .now) (nameTest (a .name .now)) (λ i. p .before .before .before .before .shared-slice-known .given i .fits) passed .stored)
     (sym (c .enum-told3 .given .1) ∙ c .before .before .find-record .ensures)
 
 inspect-slot-requires : tie.Need-inspect-slot-requires
 inspect-slot-requires c κs =
     let p = c .before .before .before .before .before .before .before .before in
     let a = p .before .before .before .before .before .args in
-    let w = ready-named (a .area .now) (a .name .now) (λ i. p .before .before .before .before .shared-slice-known .given i .fits) (sym (p .before .before .check-name .ensures) ∙ ap checkedNumber (p .enum-told .given .1)) in
+    let w = ready (a .area .now) (nameTest (a .name .now)) (λ i. p .before .before .before .before .shared-slice-known .given i .fits) (sym (p .before .before .check-name .ensures) ∙ ap checkedNumber (p .enum-told .given .1)) in
     let u = record-used (a .second) (a .name .now) (decode (a .area .now) .names) (w .stored .fits .nameSlots) (c .before .n .given .0 .0) (sym (c .before .n .given .1) ∙ c .before .before .before .find-record .ensures) in
     (w .stored, u .0, u .1)
 

@@ -7,9 +7,9 @@ use native.Mathlib.Omega.{arith}
 use lib.ListN.{getD}
 use borrow.Author.Needs.{needs}
 use borrow.Author.Count.{below-more, below-none}
-use Rattle.pin_model.specs.Layout.{decode}
-use Rattle.pin_records.specs.Find.{holds}
 use Rattle.pin_model.specs.Table.{keyIs}
+use Rattle.pin_model.specs.Layout.{decode}
+use Rattle.pin_model.specs.Fits.{holds}
 use Rattle.pin_records.proofs.Found.{key-at, key-nowhere}
 use Rattle.pin_records.proofs.find.find_key.Statement.{statement}
 use Rattle.pin_records.proofs.find.find_key.Tie as tie

@@ -9,8 +9,8 @@ use borrow.Author.Needs.{needs}
 use borrow.Author.Count.{below-more, below-none}
 use Rattle.pin_model.specs.Table.{pinnedTo}
 use Rattle.pin_model.specs.Layout.{decode, keyAt}
+use Rattle.pin_model.specs.Fits.{holds}
 use Rattle.pin_records.specs.Holds.{Holds}
-use Rattle.pin_records.specs.Find.{holds}
 use Rattle.pin_records.proofs.HeldSlots.{holds-stored}
 use Rattle.pin_records.proofs.Cleared.{stage, stage-free, stage-named, stage-unnamed, stage-cleared, stage-end}
 use Rattle.pin_records.proofs.remove.drop_unnamed.Statement.{statement}

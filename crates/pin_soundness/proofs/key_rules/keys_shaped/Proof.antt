@@ -5,7 +5,8 @@ use Prim.Native.Nat.{ℕ, _-_, _≤_, _<_}
 use native.Mathlib.Omega.{arith}
 use borrow.Author.Needs.{needs}
 use borrow.Author.Count.{below-more, below-none}
-use Rattle.pin_model.specs.Sound.{keySlot, keyShaped, keysShaped}
+use Rattle.pin_model.specs.Layout.{keySlot}
+use Rattle.pin_model.specs.Sound.{keyShaped, keysShaped}
 use Rattle.octets.proofs.Search.{every-true, every-false}
 use Rattle.pin_table.proofs.Rules.{no, yes}
 use Rattle.pin_soundness.proofs.key_rules.keys_shaped.Statement.{statement}

@@ -6,7 +6,8 @@ use native.Mathlib.Omega.{arith}
 use borrow.Author.Needs.{needs}
 use borrow.Author.Count.{below-more, below-none}
 use borrow.Author.Tests.{eq-eqb, ne-eqb}
-use Rattle.pin_model.specs.Sound.{isUsed, keyNamed, keysNamed}
+use Rattle.pin_model.specs.Layout.{isUsed}
+use Rattle.pin_model.specs.Sound.{keyNamed, keysNamed}
 use Rattle.octets.proofs.Search.{every-true, every-false}
 use Rattle.pin_table.proofs.Rules.{no, yes}
 use Rattle.pin_soundness.proofs.links.keys_named.Statement.{statement}

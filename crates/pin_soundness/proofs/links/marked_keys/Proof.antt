@@ -4,7 +4,7 @@ use Prim.Native.Nat.{_-_, _≤_}
 use native.Mathlib.Nat.{le-antisymm}
 use native.Mathlib.Omega.{arith}
 use borrow.Author.Needs.{needs}
-use Rattle.pin_model.specs.Sound.{isUsed, keyNumber}
+use Rattle.pin_model.specs.Layout.{isUsed, keyNumber}
 use Rattle.pin_soundness.specs.Marked.{KeysMarked}
 use Rattle.pin_table.proofs.Rules.{no, yes}
 use Rattle.pin_soundness.proofs.NamedKeys.{none-marked, marked-free, marked-used}

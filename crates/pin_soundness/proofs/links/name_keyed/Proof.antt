@@ -2,7 +2,8 @@
 use mathlib.Core.Path.{sym, ap, _∙_}
 use borrow.Author.Needs.{needs}
 use borrow.Author.Tests.{le-ltb, lt-ltb}
-use Rattle.pin_model.specs.Sound.{isUsed, nameKeyed}
+use Rattle.pin_model.specs.Layout.{isUsed}
+use Rattle.pin_model.specs.Sound.{nameKeyed}
 use Rattle.pin_table.proofs.Rules.{no, yes}
 use Rattle.pin_soundness.proofs.links.name_keyed.Statement.{statement}
 use Rattle.pin_soundness.proofs.links.name_keyed.Tie as tie

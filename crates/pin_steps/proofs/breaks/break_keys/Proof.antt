@@ -5,15 +5,15 @@ use native.Mathlib.Omega.{arith}
 use lib.ListN.{length}
 use borrow.Author.Needs.{needs}
 use Rattle.pin_model.specs.Layout.{decode}
+use Rattle.pin_model.specs.Judge.{break}
 use Rattle.pin_records.specs.Holds.{Holds}
-use Rattle.pin_steps.specs.Steps.{breakBy}
 use Rattle.pin_records.proofs.HeldSlots.{holds-stored}
 use Rattle.pin_steps.proofs.BreakParts.{signed-length, broken-length, firstBroken, breaks-start, breaks-next, breaks-end}
 use Rattle.pin_steps.proofs.breaks.break_keys.Statement.{statement}
 use Rattle.pin_steps.proofs.breaks.break_keys.Tie as tie
 
 abbrev Inv-loop : tie.InvT-loop
-Inv-loop area₀ breaks count i₀ area i = (i ≤ length breaks / 128) × Holds area (breakBy (firstBroken breaks i) (decode area₀))
+Inv-loop area₀ breaks count i₀ area i = (i ≤ length breaks / 128) × Holds area (break (firstBroken breaks i) (decode area₀))
 
 abbrev μ-loop : tie.MeasureT-loop
 μ-loop area₀ breaks count i₀ area i = length breaks / 128 - i

@@ -5,7 +5,7 @@ use borrow.Author.Tests.{not-true, not-false}
 use Rattle.pin_records.proofs.Found.{name-found-at, name-absent}
 use Rattle.pin_steps.proofs.Tacks.{key-length}
 use Rattle.pin_steps.proofs.PinnedTests.{pinned-test}
-use Rattle.pin_steps.proofs.LongerPins.{extend-absent, extend-other, found-begun, extend-stored}
+use Rattle.pin_steps.proofs.LongerPins.{extend-absent, extend-other, in-time, extend-stored}
 use Rattle.pin_steps.proofs.extend.extend_pin.Statement.{statement}
 use Rattle.pin_steps.proofs.extend.extend_pin.Tie as tie
 
@@ -49,14 +49,15 @@ returns-2 c =
     let s = c .before .before .before .before .before .before .before .before .before .before .before .before .before in
     let x = name-found-at _ (s .pre .0 .fits .nameSlots) _ _ (sym (c .before .before .before .before .before .before .n .given .1) ∙ c .before .before .before .before .before .before .before .before .find-name .ensures) in
     let t = pinned-test (s .pre .0) _ (x .what) (x .there) (s .args .tack .now) (c .before .before .public-key .ensures) (c .before .before .before .key-of .ensures .1) (c .before .holds-key .ensures) in
-    extend-other (s .args .name .now) (s .args .tack .now) (s .args .clock .0) (s .pre .0) (s .pre .4) x (sym t ∙ not-true _ (c .if1 .taken))
+    extend-other (s .args .name .now) (s .args .tack .now) (s .args .clock .0) (s .pre .0) (s .pre .3) x (sym t ∙ not-true _ (c .if1 .taken))
 
 extend-at-requires : tie.Need-extend-at-requires
 extend-at-requires c κs =
     let f = c .before .before .before .before .before .before .before in
     let s = f .before .before .before .before .before .before .before in
     let x = name-found-at _ (s .pre .0 .fits .nameSlots) _ _ (sym (f .n .given .1) ∙ f .before .before .find-name .ensures) in
-    (s .pre .0, x .below, x .in-use, s .pre .2, found-begun (s .args .name .now) (s .args .tack .now) (s .args .clock .0) (s .pre .0) (s .pre .4) x (s .pre .3))
+    let inTime = in-time (s .args .name .now) (s .args .tack .now) (s .args .clock .0) (s .pre .0) (s .pre .3) x (s .pre .2) in
+    (s .pre .0, x .below, x .in-use, inTime .0, inTime .1)
 
 same-length-3 : tie.Need-same-length-3
 same-length-3 c = search needs
@@ -67,7 +68,7 @@ returns-3 c =
     let s = h .before .before .before .before .before .before .before .before .before .before .before .before in
     let x = name-found-at _ (s .pre .0 .fits .nameSlots) _ _ (sym (h .before .before .before .before .before .n .given .1) ∙ h .before .before .before .before .before .before .before .find-name .ensures) in
     let t = pinned-test (s .pre .0) _ (x .what) (x .there) (s .args .tack .now) (h .before .public-key .ensures) (h .before .before .key-of .ensures .1) (h .holds-key .ensures) in
-    extend-stored (s .args .name .now) (s .args .tack .now) (s .args .clock .0) (s .pre .0) (s .pre .4) x (sym t ∙ not-false _ (c .before .before .before .before .if1 .left)) (c .before .before .extend-at .ensures)
+    extend-stored (s .args .name .now) (s .args .tack .now) (s .args .clock .0) (s .pre .0) (s .pre .3) x (sym t ∙ not-false _ (c .before .before .before .before .if1 .left)) (c .before .before .extend-at .ensures)
 
 pub extend-pin-spec : {M : Type 1} → statement M
 extend-pin-spec =

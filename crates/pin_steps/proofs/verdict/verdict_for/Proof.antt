@@ -3,10 +3,11 @@ use mathlib.Core.Path.{sym, _∙_}
 use mathlib.Core.Bool.{true, false}
 use borrow.Author.Needs.{needs}
 use borrow.Author.Tests.{not-true, not-false}
+use Rattle.pin_model.proofs.TackShown.{whole-length}
 use Rattle.pin_records.proofs.Found.{name-found-at, name-absent}
 use Rattle.pin_steps.proofs.Tacks.{key-length}
 use Rattle.pin_steps.proofs.PinnedTests.{pinned-test}
-use Rattle.pin_steps.proofs.ActivePins.{tack-whole, verdict-absent, verdict-inactive, verdict-empty, verdict-shown}
+use Rattle.pin_steps.proofs.ActivePins.{verdict-absent, verdict-inactive, verdict-empty, verdict-shown}
 use Rattle.pin_steps.proofs.verdict.verdict_for.Statement.{statement}
 use Rattle.pin_steps.proofs.verdict.verdict_for.Tie as tie
 
@@ -53,12 +54,12 @@ key-of-requires c κs =
 public-key-requires : tie.Need-public-key-requires
 public-key-requires c κs =
     let s = c .before .before .before .before .before .before .before .before .before .before .before in
-    tack-whole (s .args .tack .now) (s .pre .1) (c .before .if2 .left)
+    whole-length _ (s .pre .1) (c .before .if2 .left)
 
 holds-key-requires : tie.Need-holds-key-requires
 holds-key-requires c κs =
     let s = c .before .before .before .before .before .before .before .before .before .before .before .before in
-    (s .pre .0, c .before .key-of .ensures .0, key-length _ (c .public-key .ensures) (tack-whole (s .args .tack .now) (s .pre .1) (c .before .before .if2 .left)))
+    (s .pre .0, c .before .key-of .ensures .0, key-length _ (c .public-key .ensures) (whole-length _ (s .pre .1) (c .before .before .if2 .left)))
 
 returns-4 : tie.Need-returns-4
 returns-4 c =
@@ -67,7 +68,7 @@ returns-4 c =
     let t = pinned-test (s .pre .0) _ (x .what) (x .there) (s .args .tack .now) (c .before .before .public-key .ensures) (c .before .before .before .key-of .ensures .1) (c .before .holds-key .ensures) in
     verdict-shown (s .pre .0) (s .args .name .now) (s .args .clock .0) (s .args .tack .now) (s .pre .2) x
     (sym (c .before .before .before .before .before .before .is-active .ensures) ∙ not-false _ (c .before .before .before .before .before .if1 .left)) true
-    (tack-whole (s .args .tack .now) (s .pre .1) (c .before .before .before .before .if2 .left)) (sym t ∙ c .if3 .taken)
+    (whole-length _ (s .pre .1) (c .before .before .before .before .if2 .left)) (sym t ∙ c .if3 .taken)
 
 returns-5 : tie.Need-returns-5
 returns-5 c =
@@ -76,7 +77,7 @@ returns-5 c =
     let t = pinned-test (s .pre .0) _ (x .what) (x .there) (s .args .tack .now) (c .before .before .public-key .ensures) (c .before .before .before .key-of .ensures .1) (c .before .holds-key .ensures) in
     verdict-shown (s .pre .0) (s .args .name .now) (s .args .clock .0) (s .args .tack .now) (s .pre .2) x
     (sym (c .before .before .before .before .before .before .is-active .ensures) ∙ not-false _ (c .before .before .before .before .before .if1 .left)) false
-    (tack-whole (s .args .tack .now) (s .pre .1) (c .before .before .before .before .if2 .left)) (sym t ∙ c .if3 .left)
+    (whole-length _ (s .pre .1) (c .before .before .before .before .if2 .left)) (sym t ∙ c .if3 .left)
 
 pub verdict-for-spec : {M : Type 1} → statement M
 verdict-for-spec =

@@ -3,8 +3,8 @@ use denote.Ref.{now}
 use borrow.Author.Needs.{needs}
 use Rattle.pin_model.specs.Layout.{decode}
 use Rattle.pin_records.proofs.HeldSlots.{holds-stored}
+use Rattle.pin_steps_two.specs.SettledTwo.{SettledTwo}
 use Rattle.pin_steps_two.proofs.Settled.{raised-as, judged-from}
-use Rattle.pin_model.proofs.SoundTwo.{Stage}
 use Rattle.pin_steps_two.proofs.apply.apply.Statement.{statement}
 use Rattle.pin_steps_two.proofs.apply.apply.Tie as tie
 
@@ -15,7 +15,10 @@ from-verdict-requires : tie.Need-from-verdict-requires
 from-verdict-requires c κs =
     let s = c .before .before .before .before .before .before .before .before .before in
     let h = c .before .before .before .raise-floors .ensures in
-    (holds-stored h, raised-as (now (s .args .first)) (now (s .args .second)) (s .args .flags) (s .args .clock .0) (decode (now (s .args .area))) (Stage (s .args .clock .0)) h (s .pre .1), s .pre .2, s .pre .3)
+    let settled =
+    raised-as (now (s .args .first)) (now (s .args .second)) (s .args .flags) (s .args .clock .0) (decode (now (s .args .area)))
+    (SettledTwo (s .args .clock .0)) h (s .pre .1) in
+    (holds-stored h, settled, s .pre .2, s .pre .3)
 
 same-length : tie.Need-same-length
 same-length c = search needs

@@ -4,11 +4,11 @@ use mathlib.Core.Bool.{true, false}
 use denote.Ref.{now}
 use borrow.Author.Needs.{needs}
 use Rattle.pin_model.specs.Layout.{decode}
-use Rattle.pin_model.specs.JudgeTwo.{lacksAny}
+use Rattle.pin_model.specs.JudgeTwo.{noRoomEach}
 use Rattle.pin_records.proofs.HeldSlots.{holds-decode, holds-stored}
-use Rattle.pin_tests_two.specs.Parts.{tacksBy}
+use Rattle.pin_refusals_two.specs.Parts.{tacksBy}
 use Rattle.pin_steps_two.proofs.ShownTacks.{contradicted-same}
-use Rattle.pin_steps_two.proofs.Settled.{judged-contradicted, judged-passed, learned-from, dropped-stage}
+use Rattle.pin_steps_two.proofs.Settled.{judged-contradicted, judged-passed, learned-from, dropped-settled}
 use Rattle.pin_steps_two.proofs.apply.from_verdict.Statement.{statement}
 use Rattle.pin_steps_two.proofs.apply.from_verdict.Tie as tie
 
@@ -34,7 +34,7 @@ learn-each-requires : tie.Need-learn-each-requires
 learn-each-requires c κs =
     let s = c .before .before .before .before .before .before .before .before .before .before .before .before .before .before in
     let h = c .before .before .before .remove-records .ensures in
-    (holds-stored h, dropped-stage (now (s .args .name)) (s .pre .3) _ h (s .pre .1), s .pre .2, s .pre .3)
+    (holds-stored h, dropped-settled (now (s .args .name)) (s .pre .3) _ h (s .pre .1), s .pre .2, s .pre .3)
 
 same-length-2 : tie.Need-same-length-2
 same-length-2 c = search needs
@@ -45,7 +45,7 @@ returns-2 c =
     let i = c .before .before .before .before .before .before .before .before .before .before .before in
     judged-passed (now (s .args .name)) (s .args .clock .0) (tacksBy (now (s .args .first)) (now (s .args .second)) (s .args .flags)) (decode (now (s .args .area))) _ true
     (sym (contradicted-same (now (s .args .first)) (now (s .args .second)) (s .args .flags) (now (s .args .name)) (s .args .clock .0) (decode (now (s .args .area)))) ∙ sym (i .before .is-contradicted .ensures) ∙ i .if1 .left) (sym (c .before .before .before .before .before .before .before .before .before .is-pinned .ensures) ∙ c .if2 .taken)
-    (c .before .before .before .learn-each .ensures .0 ∙ ap (lacksAny (now (s .args .name)) (s .args .clock .0) (tacksBy (now (s .args .first)) (now (s .args .second)) (s .args .flags))) (holds-decode (c .before .before .before .before .before .before .before .remove-records .ensures)))
+    (c .before .before .before .learn-each .ensures .0 ∙ ap (noRoomEach (now (s .args .name)) (s .args .clock .0) (tacksBy (now (s .args .first)) (now (s .args .second)) (s .args .flags))) (holds-decode (c .before .before .before .before .before .before .before .remove-records .ensures)))
     (learned-from (now (s .args .name)) (s .args .clock .0) (tacksBy (now (s .args .first)) (now (s .args .second)) (s .args .flags)) (c .before .before .before .before .before .before .before .remove-records .ensures) (c .before .before .before .learn-each .ensures .1))
 
 same-length-3 : tie.Need-same-length-3
@@ -57,7 +57,7 @@ returns-3 c =
     let i = c .before .before .before .before .before .before .before .before .before .before .before in
     judged-passed (now (s .args .name)) (s .args .clock .0) (tacksBy (now (s .args .first)) (now (s .args .second)) (s .args .flags)) (decode (now (s .args .area))) _ false
     (sym (contradicted-same (now (s .args .first)) (now (s .args .second)) (s .args .flags) (now (s .args .name)) (s .args .clock .0) (decode (now (s .args .area)))) ∙ sym (i .before .is-contradicted .ensures) ∙ i .if1 .left) (sym (c .before .before .before .before .before .before .before .before .before .is-pinned .ensures) ∙ c .if2 .left)
-    (c .before .before .before .learn-each .ensures .0 ∙ ap (lacksAny (now (s .args .name)) (s .args .clock .0) (tacksBy (now (s .args .first)) (now (s .args .second)) (s .args .flags))) (holds-decode (c .before .before .before .before .before .before .before .remove-records .ensures)))
+    (c .before .before .before .learn-each .ensures .0 ∙ ap (noRoomEach (now (s .args .name)) (s .args .clock .0) (tacksBy (now (s .args .first)) (now (s .args .second)) (s .args .flags))) (holds-decode (c .before .before .before .before .before .before .before .remove-records .ensures)))
     (learned-from (now (s .args .name)) (s .args .clock .0) (tacksBy (now (s .args .first)) (now (s .args .second)) (s .args .flags)) (c .before .before .before .before .before .before .before .remove-records .ensures) (c .before .before .before .learn-each .ensures .1))
 
 pub from-verdict-spec : {M : Type 1} → statement M

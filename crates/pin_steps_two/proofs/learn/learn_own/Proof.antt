@@ -5,8 +5,8 @@ use borrow.Author.Needs.{needs}
 use borrow.Author.Tests.{not-true, not-false}
 use Rattle.pin_model.specs.Layout.{decode}
 use Rattle.pin_steps.proofs.Tacks.{key-length}
-use Rattle.pin_steps.proofs.ActivePins.{tack-whole}
-use Rattle.pin_steps_two.proofs.OwnPins.{pin-at, pin-absent, stage-limit, own-begun, own-extended, learned-none, learned-disabled, learned-extended, learned-made}
+use Rattle.pin_model.proofs.TackShown.{whole-length}
+use Rattle.pin_steps_two.proofs.OwnPins.{pin-at, pin-absent, clock-limit, own-begun, own-extended, learned-none, learned-disabled, learned-extended, learned-made}
 use Rattle.pin_steps_two.proofs.learn.learn_own.Statement.{statement}
 use Rattle.pin_steps_two.proofs.learn.learn_own.Tie as tie
 
@@ -23,12 +23,12 @@ returns-2 c =
 public-key-requires : tie.Need-public-key-requires
 public-key-requires c κs =
     let s = c .before .before .before .before .before .before in
-    tack-whole (now (s .args .tack)) (s .pre .2) (c .before .before .if1 .left)
+    whole-length _ (s .pre .2) (c .before .before .if1 .left)
 
 find-pin-requires : tie.Need-find-pin-requires
 find-pin-requires c κs =
     let s = c .before .before .before .before .before .before .before in
-    (s .pre .0, key-length (now (s .args .tack)) (c .public-key .ensures) (tack-whole (now (s .args .tack)) (s .pre .2) (c .before .before .before .if1 .left)))
+    (s .pre .0, key-length (now (s .args .tack)) (c .public-key .ensures) (whole-length _ (s .pre .2) (c .before .before .before .if1 .left)))
 
 enum-known-n : tie.Need-enum-known-n
 enum-known-n c = search needs
@@ -42,7 +42,7 @@ make-own-requires c κs =
     let s = c .before .before .before .before .before .before .before .before .before .before .before in (
       s .pre .0,
       s .pre .1,
-      tack-whole (now (s .args .tack)) (s .pre .2) (c .before .before .before .before .before .before .before .if1 .left),
+      whole-length _ (s .pre .2) (c .before .before .before .before .before .before .before .if1 .left),
       s .pre .3,
       pin-absent (now (s .args .name)) (f .before .before .before .public-key .ensures) _ (s .pre .0 .fits .nameSlots) (sym (f .enum-told .given .1) ∙ f .before .before .find-pin .ensures),
     )
@@ -55,7 +55,7 @@ returns-3 c =
     let f = c .before .before .before .before in
     let s = c .before .before .before .before .before .before .before .before .before .before .before .before .before .before in
     learned-made (now (s .args .name)) (s .args .clock .0) (decode (now (s .args .area))) _ (s .args .enabled) (not-false _ (c .before .before .before .before .before .before .before .before .before .if2 .left)) (now (s .args .tack))
-    (tack-whole (now (s .args .tack)) (s .pre .2) (c .before .before .before .before .before .before .before .before .before .before .if1 .left))
+    (whole-length _ (s .pre .2) (c .before .before .before .before .before .before .before .before .before .before .if1 .left))
     (pin-absent (now (s .args .name)) (f .before .before .before .public-key .ensures) _ (s .pre .0 .fits .nameSlots) (sym (f .enum-told .given .1) ∙ f .before .before .find-pin .ensures))
     (c .before .before .make-own .ensures)
 
@@ -67,7 +67,7 @@ extend-at-requires c κs =
       s .pre .0,
       x .below,
       x .in-use,
-      stage-limit (s .pre .1),
+      clock-limit (s .pre .1),
       own-begun (now (s .args .name)) (s .args .clock .0) (now (s .args .tack)) (s .pre .0) x (s .pre .1),
     )
 
@@ -80,7 +80,7 @@ returns-4 c =
     let s = c .before .before .before .before .before .before .before .before .before .before .before .before .before .before .before in
     let x = pin-at (now (s .args .name)) (f .before .before .before .public-key .ensures) _ (s .pre .0 .fits .nameSlots) _ (sym (f .n .given .1) ∙ f .before .before .find-pin .ensures) in
     learned-extended (now (s .args .name)) (s .args .clock .0) (decode (now (s .args .area))) _ (s .args .enabled) (not-false _ (c .before .before .before .before .before .before .before .before .before .before .if2 .left)) (now (s .args .tack))
-    (tack-whole (now (s .args .tack)) (s .pre .2) (c .before .before .before .before .before .before .before .before .before .before .before .if1 .left)) (x .recorded)
+    (whole-length _ (s .pre .2) (c .before .before .before .before .before .before .before .before .before .before .before .if1 .left)) (x .recorded)
     (own-extended (now (s .args .name)) (s .args .clock .0) (now (s .args .tack)) (s .pre .0) x (c .before .before .extend-at .ensures))
 
 pub learn-own-spec : {M : Type 1} → statement M

@@ -6,8 +6,8 @@ use lib.ListN.{getD}
 use borrow.Author.Needs.{needs}
 use Rattle.tack_extension_two.specs.ExtensionTwo.{partsTwo, enablesFirst, enablesSecond}
 use Rattle.pin_model.specs.Layout.{decode}
-use Rattle.pin_model.specs.JudgeTwo.{shownIn}
-use Rattle.pin_tests_two.specs.Parts.{tacksBy}
+use Rattle.pin_model.specs.Connection.{shownIn}
+use Rattle.pin_refusals_two.specs.Parts.{tacksBy}
 use Rattle.pin_steps_two.specs.Shown.{enabledFor}
 use Rattle.pin_steps_two.proofs.ShownTacks.{by-first, by-second, enabled-split}
 use Rattle.pin_steps_two.proofs.matching.is_enabled.Statement.{statement}

@@ -6,8 +6,8 @@ use denote.Ref.{now}
 use lib.ListN.{getD}
 use borrow.Author.Needs.{needs}
 use Rattle.pin_model.specs.Layout.{decode}
-use Rattle.pin_model.specs.JudgeTwo.{shownIn}
-use Rattle.pin_tests_two.specs.Parts.{bothTacks}
+use Rattle.pin_model.specs.Connection.{shownIn}
+use Rattle.pin_refusals_two.specs.Parts.{bothTacks}
 use Rattle.pin_steps_two.specs.Shown.{shownFor}
 use Rattle.pin_steps_two.proofs.ShownTacks.{by-first, by-second, shown-split}
 use Rattle.pin_steps_two.proofs.matching.is_shown.Statement.{statement}

@@ -10,7 +10,7 @@ use Rattle.pin_model.specs.JudgeTwo.{isRemoved}
 use Rattle.pin_records.specs.Holds.{Holds}
 use Rattle.pin_records.proofs.HeldSlots.{holds-stored}
 use Rattle.pin_records.proofs.DroppedNames.{dropped, drop-stays, drop-goes, drop-end}
-use Rattle.pin_tests_two.specs.Parts.{tacksBy}
+use Rattle.pin_refusals_two.specs.Parts.{tacksBy}
 use Rattle.pin_steps_two.proofs.removal.drop_names.Statement.{statement}
 use Rattle.pin_steps_two.proofs.removal.drop_names.Tie as tie
 

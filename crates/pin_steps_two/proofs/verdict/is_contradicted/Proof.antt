@@ -9,11 +9,11 @@ use lib.ListN.{getD}
 use borrow.Author.Needs.{needs}
 use borrow.Author.Count.{below-more, below-none}
 use Rattle.pin_model.specs.Layout.{decode}
+use Rattle.pin_model.specs.Fits.{holds}
 use Rattle.pin_model.specs.Judge.{activeOf}
-use Rattle.pin_tests_two.specs.Parts.{bothTacks}
+use Rattle.pin_refusals_two.specs.Parts.{bothTacks}
 use Rattle.pin_steps_two.specs.Shown.{shownFor}
 use Rattle.pin_model.proofs.Places.{any-at, any-none}
-use Rattle.pin_records.specs.Find.{holds}
 use Rattle.pin_steps_two.proofs.verdict.is_contradicted.Statement.{statement}
 use Rattle.pin_steps_two.proofs.verdict.is_contradicted.Tie as tie
 

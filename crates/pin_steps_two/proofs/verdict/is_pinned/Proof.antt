@@ -9,9 +9,9 @@ use lib.ListN.{getD}
 use borrow.Author.Needs.{needs}
 use borrow.Author.Count.{below-more, below-none}
 use Rattle.pin_model.specs.Layout.{decode}
+use Rattle.pin_model.specs.Fits.{holds}
 use Rattle.pin_model.specs.Judge.{activeOf}
 use Rattle.pin_model.proofs.Places.{any-at, any-none}
-use Rattle.pin_records.specs.Find.{holds}
 use Rattle.pin_steps_two.proofs.verdict.is_pinned.Statement.{statement}
 use Rattle.pin_steps_two.proofs.verdict.is_pinned.Tie as tie
 

@@ -2,7 +2,7 @@
 use Prim.Native.Nat.{_+_, _*_}
 use native.Mathlib.Omega.{arith}
 use borrow.Author.Needs.{needs}
-use Rattle.pin_model.specs.Sound.{keySlot}
+use Rattle.pin_model.specs.Layout.{keySlot}
 use Rattle.octets.proofs.Parts.{part-lent}
 use Rattle.pin_table.proofs.slots.key_slot.Statement.{statement}
 use Rattle.pin_table.proofs.slots.key_slot.Tie as tie

@@ -2,7 +2,7 @@
 use Prim.Native.Nat.{_+_, _*_}
 use native.Mathlib.Omega.{arith}
 use borrow.Author.Needs.{needs}
-use Rattle.pin_model.specs.Sound.{nameSlot}
+use Rattle.pin_model.specs.Layout.{nameSlot}
 use Rattle.octets.proofs.Parts.{part-lent}
 use Rattle.pin_table.proofs.slots.name_slot.Statement.{statement}
 use Rattle.pin_table.proofs.slots.name_slot.Tie as tie

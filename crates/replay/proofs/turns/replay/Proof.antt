@@ -1,7 +1,7 @@
 -- The run begins with the area of no calls, the empty table of edition one.
 use mathlib.Core.Path.{sym}
 use Rattle.pin_model.proofs.SoundTable.{empty-zeros}
-use Rattle.pin_journal.specs.Demand3.{areaOf}
+use Rattle.pin_model.specs.Run.{areaOf}
 use borrow.Author.Needs.{needs}
 use Rattle.replay.proofs.turns.replay.Statement.{statement}
 use Rattle.replay.proofs.turns.replay.Tie as tie

@@ -1,6 +1,6 @@
 -- The deletion's own contract, with its answer as numbers.
 use borrow.Author.Needs.{needs}
-use Rattle.tack.proofs.Outcomes.{outcome-is}
+use Rattle.tack.proofs.Outcomes.{outcome-is, deletion-alert}
 use Rattle.tack.proofs.table.tack_delete.Statement.{statement}
 use Rattle.tack.proofs.table.tack_delete.Tie as tie
 
@@ -17,7 +17,7 @@ same-length : tie.Need-same-length
 same-length c = search needs
 
 returns : tie.Need-returns
-returns c = (outcome-is _ _ _ _ (c .before .deletion-number .ensures) (c .alert-of .ensures) (c .before .before .before .before .delete .ensures .0), c .before .before .before .before .delete .ensures .1)
+returns c = (outcome-is _ _ _ _ (c .before .deletion-number .ensures) (c .alert-of .ensures) (deletion-alert (c .before .before .before .before .delete .result)) (c .before .before .before .before .delete .ensures .0), c .before .before .before .before .delete .ensures .1)
 
 pub tack-delete-spec : {M : Type 1} → statement M
 tack-delete-spec =

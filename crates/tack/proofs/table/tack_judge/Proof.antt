@@ -32,13 +32,13 @@ same-length : tie.Need-same-length
 same-length c = search needs
 
 returns : tie.Need-returns
-returns c = (judgement-is alertOf _ _ _ _ _ (c .before .verdict-number .ensures) (c .alert-of .ensures) refl (ap judgementAnswer (sym (c .before .before .before .verdict .given .1)) ∙ c .before .before .before .before .before .before .before .judge .ensures .0), c .before .before .before .before .before .before .before .judge .ensures .1)
+returns c = (judgement-is alertOf _ _ _ _ _ (c .before .verdict-number .ensures) (c .alert-of .ensures) refl refl (ap judgementAnswer (sym (c .before .before .before .verdict .given .1)) ∙ c .before .before .before .before .before .before .before .judge .ensures .0), c .before .before .before .before .before .before .before .judge .ensures .1)
 
 same-length-2 : tie.Need-same-length-2
 same-length-2 c = search needs
 
 returns-2 : tie.Need-returns-2
-returns-2 c = (judgement-is alertOf _ _ _ _ _ (c .before .refusal-number .ensures) (c .alert-of2 .ensures) refl (ap judgementAnswer (sym (c .before .before .before .refusal .given .1)) ∙ c .before .before .before .before .before .before .before .judge .ensures .0), c .before .before .before .before .before .before .before .judge .ensures .1)
+returns-2 c = (judgement-is alertOf _ _ _ _ _ (c .before .refusal-number .ensures) (c .alert-of2 .ensures) refl refl (ap judgementAnswer (sym (c .before .before .before .refusal .given .1)) ∙ c .before .before .before .before .before .before .before .judge .ensures .0), c .before .before .before .before .before .before .before .judge .ensures .1)
 
 pub tack-judge-spec : {M : Type 1} → statement M
 tack-judge-spec =

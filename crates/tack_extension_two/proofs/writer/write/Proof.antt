@@ -5,7 +5,7 @@ use lib.ListN.{length}
 use denote.Ref.{now}
 use borrow.Author.Needs.{needs}
 use borrow.Author.Tests.{not-true, not-false}
-use Rattle.tack_extension.specs.declared.writer.Writing.the-variants.{Written}
+use Rattle.tack_extension.specs.declared.answers.Writing.the-variants.{Written}
 use Rattle.tack_extension.proofs.Writing.{bad-part, no-space, written}
 use Rattle.tack_extension_two.specs.ExtensionTwo.{partsIn, goodTwo, bytesOfTwo}
 use Rattle.tack_extension_two.proofs.GoodTwo.{tacks-between, in-good, bad-tacks, bad-flags}

@@ -1,0 +1,4 @@
+pub mod Creation
+pub mod KeyTaken
+pub mod RoomFound
+pub mod Wanted

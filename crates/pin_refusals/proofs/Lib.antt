@@ -1,0 +1,5 @@
+pub mod Passed
+pub mod Clocks
+pub mod Shown
+pub mod Floors
+pub mod BreakBits
