@@ -15,8 +15,8 @@ use Rattle.octets.proofs.Tests.{byTest, is-false, both-ways, and-left, and-righ
 use Rattle.octets.proofs.Search.{every-true, every-at, every-neither, some-true, Hit, some-hit}
 use Rattle.octets.proofs.Equal.{same-true, same-eq, same-refl}
 use Rattle.pin_model.specs.Slots.{used, apart}
-use Rattle.pin_model.specs.Table.{KeyRecord, NameRecord, keyIs, nameIs, pinIs, recordsOfAName}
-use Rattle.pin_model.specs.Layout.{placeOf, keyAt, decodeName, keysIn, namesIn, ofTwo, keySlot, nameSlot, isUsed, keyIn, keyNumber}
+use Rattle.pin_model.specs.Table.{KeyRecord, keyRecord, NameRecord, keyIs, nameIs, pinIs, recordsOfAName}
+use Rattle.pin_model.specs.Layout.{placeOf, keyAt, decodeName, keysIn, namesIn, ofTwo, keySlot, nameSlot, isUsed, keyIn, keyNumber, floorField}
 use Rattle.pin_model.specs.Sound.{keysDistinct, nameKeyed, namesKeyed, sameName, nameTwice, samePin, pinTwice, nameThrice, nameAgain, namesDistinct}
 use Rattle.pin_model.specs.Fits.{holds}
 use Rattle.pin_model.proofs.Lists.{count}
@@ -42,7 +42,7 @@ module _ (b : List ℕ) (noKeyTwice : keysDistinct b ≡ true) (keyedNames : nam
 
   -- the record of a used key slot, and the key that a name slot points to
   pub keyRead : ℕ → KeyRecord
-  keyRead k = record { key = keyIn (keySlot b k); floor = getD (keySlot b k) 1 0 }
+  keyRead k = keyRecord (keyIn (keySlot b k)) (floorField (keySlot b k))
 
   pub used-key-at : (k : ℕ) → k < 64 → isUsed (keySlot b k) ≡ true → getD keys k none ≡ some (keyRead k)
   unfolding keyRead

@@ -10,8 +10,8 @@ use Rattle.octets.specs.Octets.{part, same}
 use Rattle.octets.proofs.Tests.{byTest, is-false}
 use Rattle.octets.proofs.Parts.{part-length}
 use Rattle.octets.proofs.Equal.{same-true}
-use Rattle.pin_model.specs.Table.{KeyRecord, NameRecord, keyIs, nameIs}
-use Rattle.pin_model.specs.Layout.{decodeKey, decodeName, keysIn, namesIn, keySlot, nameSlot, isUsed, keyIn, nameLength, nameIn}
+use Rattle.pin_model.specs.Table.{KeyRecord, keyRecord, NameRecord, keyIs, nameIs}
+use Rattle.pin_model.specs.Layout.{decodeKey, decodeName, keysIn, namesIn, keySlot, nameSlot, isUsed, keyIn, nameLength, nameIn, floorField}
 use Rattle.pin_model.specs.Fits.{holds}
 use Rattle.pin_model.proofs.NameBytes.{nameRead}
 use Rattle.pin_model.proofs.Decoded.{keys-in-at, names-in-at}
@@ -22,7 +22,7 @@ pub record ReadFrom {A : Type 0} (s : List ℕ) (a : A) (x : Option A) : Type 0 
   pub is : x ≡ cond (isUsed s) (some a) none
 
 abbrev pub keyRead : List ℕ → KeyRecord
-keyRead s = record { key = keyIn s; floor = getD s 1 0 }
+keyRead s = keyRecord (keyIn s) (floorField s)
 
 module _ (b : List ℕ) {s : List ℕ} where
   pub key-read : (k : ℕ) → k < 64 → s ≡ keySlot b k → ReadFrom s (keyRead s) (getD (keysIn b) k none)

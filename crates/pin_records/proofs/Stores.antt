@@ -117,7 +117,7 @@ module _ {b : List ℕ} {t : Table} (h : Holds b t) where
           let at : ℕ = 4616 + 272 * n in
           let s : List ℕ = encodeName (t .keys) (some r) in
           let vs : List ℕ = bigEndian 4 end in
-          let x : NameRecord = record { name = r .name; key = r .key; initial = r .initial; end = some end } in
+          let x : NameRecord = nameRecord (r .name) (r .key) (r .initial) (some end) in
           let o : nameFits (t .keys) r ≡ true = ap (freeOr (nameFits (t .keys))) (sym e) ∙ name-fits-at t (h .fits) n in
           let f : NameFits (t .keys) r = name-fits (t .keys) r o in
           let four : length vs ≡ 4 = bigEndian-length 4 end in
