@@ -2,7 +2,7 @@
  *
  * Every function answers for every input: any bytes, any length, any clock. A pointer may be null only where its length
  * is 0. A table or an output may not overlap another argument. Numbers and alerts are those of the paper; a refusal leaves all
- * lent memory as it was, byte for byte.
+ * lent memory as it was, byte for byte, but for one: 23 of tack_judge may raise one floor, below.
  *
  * The draft has two editions. In edition one an extension holds one tack at most, and break signatures; in edition two it holds
  * one or two tacks. A server sends the extension of one of them, and a table is of one of them. The functions of edition two
@@ -89,8 +89,7 @@ bool tack_name_well_formed(const uint8_t *name, size_t length);
 
 /* The pin table is an area of 39,432 bytes that the caller keeps, in memory or in a file, and lends to each call. Byte 4 is its
  * edition, 0 for one and 1 for two; bytes 5 to 7 are zero. All zero is the empty table of edition one. In edition two a name
- * may have two records, with different keys. An area of another length is 10, a damaged table 11, and a refusal leaves the area
- * as it was. The table keeps names in small letters only; one that holds a capital is damaged. Clocks are whole minutes since
+ * may have two records, with different keys. An area of another length is 10, a damaged table 11. The table keeps names in small letters only; one that holds a capital is damaged. Clocks are whole minutes since
  * 1970, 4,294,924,095 at most; above that it is 13. */
 #define TACK_TABLE_LENGTH 39432
 
@@ -108,6 +107,10 @@ bool tack_name_well_formed(const uint8_t *name, size_t length);
  * In edition one, where several apply, the lowest is given, but 27 next to 11. In edition two the order is 10, 11, 27, 12 to
  * 16, 24; then 18, 19, 23, 20, 21 of the first tack, and the same of the second; then 22 of either. There 23 is also given at
  * expiration = clock, and 16, 18 to 21 and 24 carry alert 42, the others as above.
+ *
+ * An expired tack still revokes: where tack_judge answers 23 and the tack's key has a record whose floor is below the tack's
+ * min_generation, the floor becomes that value. No other byte changes, latest and what the break signatures name included. So a
+ * table that is kept in a file is written after a 23 too. In edition two 23 changes nothing, and no other refusal does in either.
  */
 
 /* Judges one finished connection of edition one and brings the table up to date. spki_sha256 is the SHA-256 of the server's

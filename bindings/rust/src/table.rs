@@ -168,7 +168,7 @@ impl PinTable {
     }
 
     /// Judges one finished connection of edition one and brings the table up to date. By a table of edition two it is refused
-    /// with [`Refusal::OtherEdition`].
+    /// with [`Refusal::OtherEdition`]. A refusal changes nothing, but [`Refusal::Expired`] may raise one floor.
     pub fn judge(&mut self, connection: &Connection) -> Result<Judgement, Refused> {
         judgement(raw::judge(&mut self.area[..], &connection.arguments()))
     }

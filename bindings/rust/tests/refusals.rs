@@ -1,4 +1,5 @@
-//! Every refusal of the judge of edition one through the safe crate: its number, its alert, and a table that stays as it was.
+//! Every refusal of the judge of edition one through the safe crate: its number, its alert, and a table that stays as it was, but
+//! for the floor that an expired tack raises.
 
 mod common;
 
@@ -36,6 +37,32 @@ fn each_refusal_of_the_judge() {
         assert_eq!(Refusal::try_from(number), Ok(refused.refusal()));
         assert!(pins == before, "{refused}: the table changed");
     }
+}
+
+/// Byte 1 of the first key slot.
+const FLOOR_AT: usize = 9;
+
+#[test]
+fn an_expired_tack_still_revokes() {
+    let (third, fourth) = (shown(3, 3, u32::MAX), shown(4, 4, u32::MAX));
+    let (higher, lower) = (shown(5, 5, 1000), shown(2, 5, 1000));
+    let good = good(&third);
+    let mut pins = PinTable::new();
+    pins.judge(&good).expect("a verdict");
+    let mut expected = *pins.as_bytes();
+    assert_eq!(expected[FLOOR_AT], 3);
+
+    for (expired, floor) in [(&lower, 3), (&higher, 5), (&lower, 5), (&higher, 5)] {
+        let refused = pins.judge(&good.with_clock(1001).with_extension(expired));
+        let refused = refused.expect_err("it is refused");
+        assert_eq!((refused.number(), refused.alert()), (23, 45));
+        expected[FLOOR_AT] = floor;
+        assert!(*pins.as_bytes() == expected, "more than the floor changed");
+    }
+    // Latest is still 1000.
+    let refused = pins.judge(&good.with_extension(&fourth));
+    let refused = refused.expect_err("it is refused");
+    assert_eq!(refused.refusal(), Refusal::GenerationRevoked);
 }
 
 #[test]

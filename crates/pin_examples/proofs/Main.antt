@@ -1,4 +1,4 @@
--- E1 to E12 and the spellings of Q-2 hold: computed on the model's tables, and carried over to bytes by the run.
+-- E1 to E12, the spellings of Q-2 and the expired tacks of Q-4 hold: computed on the model's tables, and carried over to bytes by the run.
 use mathlib.Core.Path.{_≡_, refl, _∙_}
 use mathlib.Core.Bool.{false}
 use Rattle.octets.specs.Octets.{number, numberAfter}
@@ -6,7 +6,7 @@ use Rattle.tack_extension.specs.Extension.{tackStep, breaksStep, activationStep
 use Rattle.pin_model.specs.Layout.{joined, encodeKey, encodeName, encode}
 use Rattle.pin_model.specs.Run.{areaOf}
 use Rattle.pin_journal.proofs.Main.{area-run, answer-run}
-use Rattle.pin_examples.specs.Examples.{ReadingRight, Row, Right, after, Every, nothing, _also_, e4, e4Area, e5, e5Inspected, e6, e7, e8, e8Inspected, e9, e10, e11, e12At1000, e12At1001, spelledMade, spelledConfirmed, spelledContradicted, spelledInspected, spelledAZ, spelledBeforeA, spelledBehindZ, readingExamples, spelledExamples, Examples}
+use Rattle.pin_examples.specs.Examples.{ReadingRight, Row, Right, after, Every, nothing, _also_, e4, e4Area, e5, e5Inspected, e6, e7, e8, e8Inspected, e9, e10, e11, e12At1000, e12At1001, spelledMade, spelledConfirmed, spelledContradicted, spelledInspected, spelledAZ, spelledBeforeA, spelledBehindZ, expiredRaises, expiredArea, expiredRevokes, expiredAllows, expiredBreak, expiredBreakInspected, expiredLower, expiredUnknown, readingExamples, spelledExamples, expiredExamples, Examples}
 use Rattle.pin_examples.proofs.Model.{modelAnswer}
 
 right : (r : Row) → modelAnswer false (r .history) (r .call) ≡ r .gives → Right r
@@ -75,6 +75,16 @@ spellings-right =
     right spelledMade refl also right spelledConfirmed refl also right spelledContradicted refl also right spelledInspected refl
     also right spelledAZ refl also right spelledBeforeA refl also right spelledBehindZ refl also nothing
 
+expired-right : Every Right expiredExamples
+unfolding modelAnswer
+expired-right =
+    right expiredRaises refl also right expiredRevokes refl also right expiredAllows refl also right expiredBreak refl
+    also right expiredBreakInspected refl also right expiredLower refl also right expiredUnknown refl also nothing
+
+expired-bytes : areaOf false (after expiredRaises) ≡ expiredArea
+unfolding modelAnswer encode joined encodeKey encodeName e4Area
+expired-bytes = area-run false (after expiredRaises) ∙ refl
+
 pub examples-hold : Examples
 examples-hold = record {
   readings = e1-e2-e3-right;
@@ -83,4 +93,6 @@ examples-hold = record {
       also e9-right also e10-right also e11-right also e12At1000-right also e12At1001-right also nothing;
   e4Bytes = e4-bytes;
   spellings = spellings-right;
+  expired = expired-right;
+  expiredBytes = expired-bytes;
 }

@@ -1,11 +1,11 @@
--- E1 to E12 of document 01, 'Examples on both sides', and spellings of a name for document 02, Q-2: one table under one
--- statement, `Examples`.
+-- E1 to E12 of document 01, 'Examples on both sides', spellings of a name for document 02, Q-2, and expired tacks for Q-4: one table
+-- under one statement, `Examples`.
 use mathlib.Core.Path.{_≡_}
 use mathlib.Core.Bool.{true, false}
 use mathlib.Core.List.{List, [], _∷_, _++_}
 use Prim.Native.Nat.{ℕ, _*_}
 use lib.IntN.{pos}
-use lib.ListN.{replicate}
+use lib.ListN.{replicate, set}
 use Rattle.octets.specs.Octets.{bigEndian}
 use Rattle.tack_extension.specs.Extension.{parts, bytesOf, parse}
 use Rattle.tack_extension.specs.Answers.{readingOf, readingNumber}
@@ -199,6 +199,39 @@ spelledBeforeA = row [] (tackAs (0x40 ∷ 0x2E ∷ 0x5A ∷ []) 1000 (tack 3 3 l
 abbrev pub spelledBehindZ : Row
 spelledBehindZ = row [] (tackAs (0x41 ∷ 0x2E ∷ 0x5B ∷ []) 1000 (tack 3 3 later)) (plain 12)
 
+-- 'an expired but correctly signed tack with a higher min_generation must raise the floor of a standing key record' (document 02,
+-- Q-4): from E4, E12's call at 1001 with min_generation 5
+abbrev pub expiredRaises : Row
+expiredRaises = row (after e4) (withTack 1001 (tack 5 5 1000)) (alerted 23 45)
+
+-- '23 changes that floor and nothing else, not even latest': E4's table with 05 in byte 1 of key slot 0
+abbrev pub expiredArea : List ℕ
+expiredArea = set e4Area 9 0x05
+
+-- then a tack of generation 4 is 22, at 1000 too, where 14 would come if latest were 1001; one of generation 5 passes
+abbrev pub expiredRevokes : Row
+expiredRevokes = row (after expiredRaises) (withTack 1000 (tack 4 4 later)) (alerted 22 44)
+
+abbrev pub expiredAllows : Row
+expiredAllows = row (after expiredRaises) (withTack 1600 (tack 4 5 later)) (plain 1)
+
+-- with a break signature of K in the same extension: K's record stands, and its floor is raised
+abbrev pub expiredBreak : Row
+expiredBreak =
+    row (after e4)
+    (judge (connection 1001 host true (bytesOf (parts (tack 5 5 1000) (replicate 64 0x11 ++ replicate 64 0x33) 1)) hash (checksBy true true true 1)))
+    (alerted 23 45)
+
+abbrev pub expiredBreakInspected : Row
+expiredBreakInspected = row (after expiredBreak) (inspect false host 1001) (answerOf false 5 false 5 1000 0 (pos 0))
+
+-- an expired tack of a lower min_generation leaves the floor, and one of a key without a record makes none
+abbrev pub expiredLower : Row
+expiredLower = row (withTack 1001 (tack 2 3 1000) ∷ after e4) (inspect false host 1001) (answerOf false 5 false 3 1000 0 (pos 0))
+
+abbrev pub expiredUnknown : Row
+expiredUnknown = row (after e12At1001) (inspect false host 1001) (plain 4)
+
 abbrev pub readingExamples : List ReadingRow
 readingExamples = e1 ∷ e2 ∷ e3 ∷ []
 
@@ -210,9 +243,15 @@ spelledExamples =
     spelledMade ∷ spelledConfirmed ∷ spelledContradicted ∷ spelledInspected
     ∷ spelledAZ ∷ spelledBeforeA ∷ spelledBehindZ ∷ []
 
+abbrev pub expiredExamples : List Row
+expiredExamples =
+    expiredRaises ∷ expiredRevokes ∷ expiredAllows ∷ expiredBreak ∷ expiredBreakInspected ∷ expiredLower ∷ expiredUnknown ∷ []
+
 -- 'E1-E12 are proved together as one table under one statement'
 pub record Examples : Type 0 where
   pub readings : Every ReadingRight readingExamples
   pub rows : Every Right examples
   pub e4Bytes : areaOf false (after e4) ≡ e4Area
   pub spellings : Every Right spelledExamples
+  pub expired : Every Right expiredExamples
+  pub expiredBytes : areaOf false (after expiredRaises) ≡ expiredArea

@@ -269,6 +269,12 @@ oneKeyFirst =
 abbrev pub expiredAt1000 : RowTwo
 expiredAt1000 = rowTwo [] (oneTack 1000 (tackUnder keyA 3 3 1000) theFirst) (alerted 23 45) (empty true)
 
+-- 'there 23 raises no floor' (document 02, Q-4): from A's record, A's tack with min_generation 5, expired
+abbrev pub expiredRaisesNone : RowTwo
+expiredRaisesNone =
+    rowTwo (afterTwo moveMade) (oneTack 1600 (tackUnder keyA 5 5 1600) theFirst) (alerted 23 45)
+    (tableTwo 1000 (keyWith keyA 3 ∷ []) (pinWith keyA 1000 none ∷ []))
+
 abbrev pub expiresAfter999 : RowTwo
 expiresAfter999 =
     rowTwo [] (oneTack 999 (tackUnder keyA 3 3 1000) theFirst) (inEditionTwo 0)
@@ -422,8 +428,8 @@ verdicts =
 
 abbrev pub refusals : List RowTwo
 refusals =
-    bitWithoutTack ∷ furtherBit ∷ oneKey ∷ oneKeyFirst ∷ expiredAt1000 ∷ expiresAfter999 ∷ generationFirst ∷ expiredFirst
-    ∷ hashFirst ∷ firstTackFirst ∷ firstRevoked ∷ secondRevoked ∷ revokedLast ∷ []
+    bitWithoutTack ∷ furtherBit ∷ oneKey ∷ oneKeyFirst ∷ expiredAt1000 ∷ expiredRaisesNone ∷ expiresAfter999 ∷ generationFirst
+    ∷ expiredFirst ∷ hashFirst ∷ firstTackFirst ∷ firstRevoked ∷ secondRevoked ∷ revokedLast ∷ []
 
 abbrev pub editions : List RowTwo
 editions = startedOne ∷ startedTwo ∷ oneOnTwo ∷ oneOnTwoFirst ∷ e4OnOne ∷ twoOnOne ∷ []

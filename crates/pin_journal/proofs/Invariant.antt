@@ -1,4 +1,4 @@
--- The invariant of a run, and what keeps it: nothing done, a judgement with a verdict, a deletion, a start.
+-- The invariant of a run, and what keeps it: nothing done, a judgement with a verdict, an expired tack, a deletion, a start.
 use mathlib.Core.Path.{_≡_, refl, sym, _∙_, ap, subst}
 use mathlib.Core.Bool.{Bool, true, false, cond, false≢true}
 use mathlib.Core.List.{List, [], _∷_}
@@ -7,16 +7,16 @@ use native.Mathlib.Omega.{arith}
 use lib.Dec.{eqb}
 use Rattle.pin_model.specs.Table.{clockLimit, Table, empty, without}
 use Rattle.pin_model.specs.Connection.{Connection, tackShown, enabled, brokenKeys, ConnectionTwo, tacksShown}
-use Rattle.pin_model.specs.Judge.{judged}
+use Rattle.pin_model.specs.Judge.{raiseShown, judged}
 use Rattle.pin_model.specs.JudgeTwo.{raisedTwo, contradicted, judgedTwo}
 use Rattle.pin_model.specs.Calls.{Call, judge, judgeTwo, delete, start, isVerdict, tacksOfCall}
 use Rattle.pin_model.proofs.Lists.{struck-any}
 use Rattle.pin_model.proofs.SoundFacts.{SoundFacts}
 use Rattle.pin_model.proofs.TwoFacts.{ConnectionTwoFacts}
-use Rattle.pin_journal.specs.Journal.{Row, Entry, rowOf, rowKey, entered, unbroken, journal, stands, since, highest, enteredTwo, shownUnder}
+use Rattle.pin_journal.specs.Journal.{Row, Entry, rowOf, rowKey, entered, unbroken, journal, stands, since, isCounted, highest, enteredTwo, shownUnder}
 use Rattle.pin_journal.proofs.Agreement.{Agrees, refloored}
 use Rattle.pin_journal.proofs.Steps.{without-agrees}
-use Rattle.pin_journal.proofs.Judging.{Learned, judged-learned}
+use Rattle.pin_journal.proofs.Judging.{Learned, raised-learned, judged-learned}
 use Rattle.pin_journal.proofs.JudgingTwo.{judged-two-learned}
 
 abbrev pub Invariant : Table → List Entry → Type 0
@@ -27,7 +27,7 @@ entry call n = record { call = call; number = n }
 
 -- what one call with its number showed under a key
 abbrev pub shownBy : List ℕ → Entry → ℕ
-shownBy k e = cond (isVerdict (e .number)) (shownUnder k (tacksOfCall (e .call))) 0
+shownBy k e = cond (isCounted (e .call) (e .number)) (shownUnder k (tacksOfCall (e .call))) 0
 
 -- 'since that record was made, the making call included', one call later
 pub highest-since : (k : List ℕ) (e : Entry) (es : List Entry) → stands k (journal (e ∷ es)) ≡ true
@@ -77,30 +77,37 @@ delete-invariant name t es invariant =
     invariant-after (without name t) (entry (delete name) 3) es (λ k. highest k (since k es)) (without-agrees name invariant)
     (λ k stood. rw (struck-any (rowKey k) (rowOf name) (journal es) stood) (omega arith))
 
--- 'Judging with a verdict', in either edition
-module _ (call : Call) (t after : Table) (es : List Entry) (n : ℕ) (verdict : isVerdict n ≡ true) (rowsAfter : List Row) where
-  learned-invariant : journal (entry call n ∷ es) ≡ cond (isVerdict n) rowsAfter (journal es)
-      → Learned (tacksOfCall call) (journal es) (λ k. highest k (since k es)) after rowsAfter → Invariant after (entry call n ∷ es)
-  learned-invariant written l =
-      let rows : journal (entry call n ∷ es) ≡ rowsAfter = written ∙ ap (λ (b : Bool). cond b rowsAfter (journal es)) verdict in
-      invariant-after after (entry call n) es (l .floorAfter)
-      (subst (λ (r : List Row). Agrees after r (l .floorAfter)) (sym rows) (l .agrees))
-      (λ k stood.
-      l .highest k (sym (ap (stands k) rows) ∙ stood)
-      ∙ ap (λ (b : Bool). max (cond b (shownUnder k (tacksOfCall call)) 0) (cond (stands k (journal es)) (highest k (since k es)) 0)) (sym verdict))
+-- a judged call that is counted: its rows, and what it leaves
+learned-invariant : (call : Call) (n : ℕ) (after : Table) (rowsAfter : List Row) (es : List Entry)
+    → journal (entry call n ∷ es) ≡ rowsAfter → isCounted call n ≡ true
+    → Learned (tacksOfCall call) (journal es) (λ k. highest k (since k es)) after rowsAfter → Invariant after (entry call n ∷ es)
+learned-invariant call n after rowsAfter es rows counted l =
+    invariant-after after (entry call n) es (l .floorAfter)
+    (subst (λ (r : List Row). Agrees after r (l .floorAfter)) (sym rows) (l .agrees))
+    (λ k stood.
+    l .highest k (sym (ap (stands k) rows) ∙ stood)
+    ∙ ap (λ (b : Bool). max (cond b (shownUnder k (tacksOfCall call)) 0) (cond (stands k (journal es)) (highest k (since k es)) 0)) (sym counted))
 
+-- 'Judging with a verdict'
 pub judge-invariant : (c : Connection) (t : Table) (es : List Entry) (n : ℕ) → isVerdict n ≡ true → Invariant t es → SoundFacts t
     → t .two ≡ false → t .latest ≤ c .clock → c .clock ≤ clockLimit → Invariant (judged c t) (entry (judge c) n ∷ es)
 unfolding journal
 judge-invariant c t es n verdict invariant facts one inOrder inLimit =
-    learned-invariant (judge c) t (judged c t) es n verdict
-    (unbroken (brokenKeys c) (entered (enabled c) (c .name) (c .clock) (tackShown c) (journal es))) refl
+    learned-invariant (judge c) n (judged c t)
+    (unbroken (brokenKeys c) (entered (enabled c) (c .name) (c .clock) (tackShown c) (journal es))) es (rw verdict) (rw verdict)
     (judged-learned c t (journal es) (λ k. highest k (since k es)) invariant facts one inOrder inLimit)
+
+-- 'an expired .. tack with a higher min_generation must raise the floor of a standing key record' (document 02, Q-4); no row changes
+pub expired-invariant : (c : Connection) (t : Table) (es : List Entry) (n : ℕ) → isVerdict n ≡ false → eqb n 23 ≡ true → Invariant t es
+    → Invariant (raiseShown (tackShown c) t) (entry (judge c) n ∷ es)
+unfolding journal
+expired-invariant c t es n refused expired invariant =
+    learned-invariant (judge c) n (raiseShown (tackShown c) t) (journal es) es (rw refused) (rw (refused, expired))
+    (raised-learned (tackShown c) t (journal es) (λ k. highest k (since k es)) invariant)
 
 pub judge-two-invariant : (c : ConnectionTwo) (t : Table) (es : List Entry) (n : ℕ) → isVerdict n ≡ true → contradicted (c .name) (c .clock) (tacksShown c) (raisedTwo c t) ≡ eqb n 2
     → Invariant t es → SoundFacts t → ConnectionTwoFacts c t → Invariant (judgedTwo c t) (entry (judgeTwo c) n ∷ es)
 unfolding journal
 judge-two-invariant c t es n verdict its invariant facts passed =
-    learned-invariant (judgeTwo c) t (judgedTwo c t) es n verdict
-    (enteredTwo (c .name) (c .clock) (tacksShown c) n (journal es)) refl
+    learned-invariant (judgeTwo c) n (judgedTwo c t) (enteredTwo (c .name) (c .clock) (tacksShown c) n (journal es)) es (rw verdict) verdict
     (judged-two-learned c t (journal es) (λ k. highest k (since k es)) invariant facts passed n its)

@@ -9,10 +9,10 @@ use Rattle.pin_model.specs.Table.{clockLimit, NameRecord, Table, holding, settl
 use Rattle.pin_model.specs.SoundTable.{soundTable}
 use Rattle.pin_model.specs.Judge.{raise, extendedTo, extend, wantsRecord, roomFor, withRecord, learn}
 use Rattle.pin_model.proofs.Lists.{any-nothing, cond-either}
+use Rattle.pin_model.proofs.OneSlot.{changed-none}
 use Rattle.pin_model.proofs.SoundFacts.{sound-facts, facts-sound}
 use Rattle.pin_model.proofs.SoundSteps.{raise-keeps, settled-keeps}
 use Rattle.pin_model.proofs.SoundCalls.{extended-facts}
-use Rattle.pin_records.proofs.Placed.{changed-none}
 
 module _ (tack : List ℕ) (clock : ℕ) (t : Table) (h : soundTable t ≡ true) (inOrder : t .latest ≤ clock) (inLimit : clock ≤ clockLimit) where
   pub raised-sound : soundTable (settledAt clock (raise tack t)) ≡ true

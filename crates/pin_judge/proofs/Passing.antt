@@ -1,13 +1,14 @@
 -- The area's refusals and its edition's; where an extension came, the later ones, what is known where none applies, and the answer then.
-use mathlib.Core.Path.{_≡_, sym, ap, ap₂, _∙_}
-use mathlib.Core.Bool.{Bool, true, false, cond, not}
-use mathlib.Core.List.{List, [], _++_, map}
+use mathlib.Core.Path.{_≡_, refl, sym, ap, ap₂, _∙_}
+use mathlib.Core.Bool.{Bool, true, false, cond, not, false≢true}
+use mathlib.Core.List.{List, [], _∷_, _++_, map}
 use mathlib.Core.Option.{none, some}
 use Prim.Native.Nat.{ℕ, _≤_}
 use lib.Dec.{eqb, ltb}
-use lib.ListN.{getD}
-use borrow.Author.Tests.{ltb-false, le-ltb}
+use lib.ListN.{length, getD}
+use borrow.Author.Tests.{ltb-false, le-ltb, not-true}
 use Rattle.octets.proofs.Numbers.{Bytes}
+use Rattle.octets.proofs.Options.{byOption, never-some, some-injective}
 use Rattle.host_name.specs.Name.{wellFormed}
 use Rattle.tack_extension.specs.Extension.{parse, tackPart, breaksPart}
 use Rattle.tack_extension.specs.Tack.{breakKey, breakSignatures}
@@ -18,10 +19,11 @@ use Rattle.pin_model.specs.Layout.{encode, decode}
 use Rattle.pin_model.specs.Sound.{sound}
 use Rattle.pin_model.specs.Connection.{Connection, connection, partsOf, unlessEmpty, tackShown, enabled, isEnabled, breaksShown, brokenKeys}
 use Rattle.pin_model.specs.Refusals.{first, areaTests, nameTest, limitTest, handshakeTests, isNone, formTest, breaksTest, tackTests}
-use Rattle.pin_model.specs.Judge.{judged, noRoom, steps, verdict}
+use Rattle.pin_model.specs.Judge.{raiseShown, judged, noRoom, steps, verdict}
 use Rattle.pin_model.specs.Calls.{Answer, plain, judge, folded, tableTestsOf, refusal, answer, areaAfter, answered, areaLeft}
 use Rattle.pin_model.specs.declared.Checks.{Checks}
-use Rattle.pin_model.proofs.First.{passed, first-here, first-later}
+use Rattle.pin_model.proofs.TackShown.{tack-length}
+use Rattle.pin_model.proofs.First.{passed, first-here, first-later, first-number}
 use Rattle.pin_answers.specs.Numbers.{checkedNumber}
 use Rattle.pin_answers.specs.declared.Checked.{Checked}
 use Rattle.pin_answers.specs.declared.Checked.the-variants.{Passed}
@@ -33,7 +35,10 @@ use Rattle.pin_judge.specs.Answered.{stepsAnswer}
 -- 10 and 11 come first, whatever the connection
 pub refused-area : (c : Connection) (b : List ℕ) (n : ℕ) → first (areaTests b) ≡ some n → (plain n ≡ answered (judge c) b) × (b ≡ areaLeft (judge c) b)
 unfolding refusal answered areaLeft
-refused-area c b n e = call-refused (folded (judge c)) b n (first-here (areaTests b) (tableTestsOf (folded (judge c)) (decode b)) n e)
+refused-area c b n e =
+    let g = call-refused (folded (judge c)) b n (first-here (areaTests b) (tableTestsOf (folded (judge c)) (decode b)) n e) in
+    let early : eqb n 23 ≡ false = not-true (eqb n 23) (first-number (λ m. not (eqb m 23)) (areaTests b) n refl e) in
+    (g .0, rw early at (g .1))
 
 -- then 27
 pub refused-edition : (c : Connection) (b : List ℕ) → sound b ≡ true → decode b .two ≡ true → (plain 27 ≡ answered (judge c) b) × (b ≡ areaLeft (judge c) b)
@@ -46,6 +51,10 @@ pub by-reading : {X : Type 0} (f : Bool → List ℕ → List ℕ → X) (s : Li
     → tack ≡ tackPart s → breaks ≡ breaksPart s → f (eqb a 1) tack breaks ≡ f (isEnabled (parse s)) (tackPart s) (breaksPart s)
 by-reading f s a {tack} {breaks} e et eb =
     ap (λ (on : Bool). f on tack breaks) (sym (well-shown s a e .on)) ∙ ap₂ (f (isEnabled (parse s))) et eb
+
+is-shown : (t tack : List ℕ) → unlessEmpty t ≡ some tack → t ≡ tack
+is-shown [] tack e = never-some e
+is-shown (x ∷ xs) tack e = some-injective e
 
 module _ (clock : ℕ) (name bytes hash : List ℕ) (checks : Checks) (b : List ℕ) where
   abbrev it : Connection
@@ -80,8 +89,14 @@ module _ (clock : ℕ) (name bytes hash : List ℕ) (checks : Checks) (b : List 
         behind h (known .ofOne)
         ∙ ap₂ (λ (o p : Bool). cond (not o) (some 12) (cond p (some 13) (first shown))) (known .nameFormed) (le-ltb clockLimit clock (known .clockInLimit))
 
-    pub refused-shown : (n : ℕ) → first shown ≡ some n → Refused n
-    refused-shown n e = call-refused (judge it) b n (then ∙ e)
+    -- a refusal behind 13, by what is answered and left
+    pub refused-so : (n : ℕ) → first shown ≡ some n → (x : Answer) (after : List ℕ)
+        → (x ≡ plain n) × (after ≡ cond (eqb n 23) (encode (raiseShown (unlessEmpty (tackPart bytes)) (decode b))) b)
+        → (x ≡ answer (judge it) b) × (after ≡ areaAfter (judge it) b)
+    unfolding partsOf tackPart tackShown
+    refused-so n e x after w =
+        let g = call-refused (judge it) b n (then ∙ e) in
+        (w .0 ∙ g .0, w .1 ∙ g .1)
 
     -- where the tests pass, the steps give the answer
     abbrev broken : List (List ℕ)
@@ -95,6 +110,17 @@ module _ (clock : ℕ) (name bytes hash : List ℕ) (checks : Checks) (b : List 
     judged-so passes x after w =
         let g = call-passed (judge it) b (then ∙ passes) in
         (w .0 ∙ g .0, w .1 ∙ g .1)
+
+  -- '18 to 23 need a tack'
+  pub expired-tack : first shown ≡ some 23 → length (tackPart bytes) ≡ 166
+  unfolding partsOf tackPart tackShown
+  expired-tack e =
+      byOption (unlessEmpty (tackPart bytes))
+      (λ tack d. ap length (is-shown (tackPart bytes) tack d) ∙ tack-length it tack d)
+      (λ d. absurd (false≢true (first-number (λ m. not (eqb m 23))
+      (handshakeTests clock (checks .«handshake_finished») (decode b)
+      ++ (formTest (parse bytes) ++ breaksTest (breakSignatures (breaksPart bytes)) (checks .«breaks_correct»)))
+      23 refl (rw d at e))))
 
   -- what the tests that passed say: 14, and 16
   module _ (r : Checked) (its : checkedNumber r ≡ first shown) (passes : r ≡ Passed) where

@@ -17,8 +17,9 @@ use pin_table::slots;
 use tack_extension::reader;
 use tack_extension::reader::Reading;
 ghost use mathlib.Core.Path.{_≡_};
-ghost use mathlib.Core.Bool.{true, false};
+ghost use mathlib.Core.Bool.{true, false, cond};
 ghost use mathlib.Core.List.{map};
+ghost use lib.Dec.{eqb};
 ghost use lib.ListN.{length};
 ghost use Rattle.tack_extension.specs.Extension.{parse, tackLength, tackPart, breaksLength, breaksPart};
 ghost use Rattle.tack_extension.specs.Tack.{breakKey, breakSignatures};
@@ -26,10 +27,10 @@ ghost use Rattle.pin_model.specs.Layout.{decode, encode};
 ghost use Rattle.pin_model.specs.Sound.{sound};
 ghost use Rattle.pin_model.specs.Connection.{connection, unlessEmpty, isEnabled};
 ghost use Rattle.pin_model.specs.Refusals.{isNone};
-ghost use Rattle.pin_model.specs.Judge.{learn, noRoomIn, steps};
+ghost use Rattle.pin_model.specs.Judge.{raiseShown, learn, noRoomIn, steps};
 ghost use Rattle.pin_model.specs.Calls as calls;
-ghost use Rattle.pin_answers.specs.Numbers.{judgementAnswer};
-ghost use Rattle.pin_records.specs.Holds.{Holds};
+ghost use Rattle.pin_answers.specs.Numbers.{refusalNumber, judgementAnswer};
+ghost use Rattle.pin_records.specs.Holds.{Holds, Stored};
 ghost use Rattle.pin_judge.specs.Known.{Admitted, InOrder};
 ghost use Rattle.pin_judge.specs.Answered.{stepsAnswer};
 
@@ -88,6 +89,18 @@ fn apply_shown(area: &mut [u8], name: &[u8], clock: Minutes, extension: &[u8]) -
     )
 }
 
+// A refusal behind 13. An expired tack still revokes: at 23 the floor of its key's record rises, and nothing else changes.
+fn refuse(area: &mut [u8], extension: &[u8], refusal: Refusal) -> Judgement
+    requires { ⌜ Stored (now area) × (refusalNumber refusal ≡ 23 → length (tackPart (now extension)) ≡ 166) ⌝ }
+    ensures { λ r. ⌜ (judgementAnswer r ≡ calls.plain (refusalNumber refusal)) × (now (area .exit) ≡ cond (eqb (refusalNumber refusal) 23) (encode (raiseShown (unlessEmpty (tackPart (now (extension .entry)))) (decode (now (area .entry))))) (now (area .entry))) ⌝ }
+{
+    if let Refusal::Expired = refusal {
+        raise::raise_floor(area, reader::tack_part(extension));
+        return Judgement::Refused(refusal);
+    }
+    Judgement::Refused(refusal)
+}
+
 // 14 to 23, and the steps where none applies.
 fn judge_at(
     area: &mut [u8],
@@ -108,7 +121,7 @@ fn judge_at(
         hash,
         checks,
     ) {
-        return Judgement::Refused(refusal);
+        return refuse(area, extension, refusal);
     }
     apply_shown(area, name, clock, extension)
 }

@@ -1,15 +1,15 @@
 -- Demand 1, for every call on every area.
 use mathlib.Core.Path.{_≡_, refl, sym, _∙_, ap, ap₂}
-use mathlib.Core.Bool.{Bool, true, false, cond, _&&_, _||_, true≢false, false≢true, or-true, or-false}
+use mathlib.Core.Bool.{Bool, true, false, cond, not, _&&_, _||_, true≢false, false≢true, or-true, or-false}
 use mathlib.Core.List.{List, [], _∷_, map}
 use mathlib.Core.Option.{Option, none, some}
 use Prim.Native.Nat.{ℕ, _+_, _≤_}
 use native.Mathlib.Omega.{arith}
 use lib.Dec.{eqb, ltb}
 use lib.ListN.{length, getD, drop}
-use borrow.Author.Tests.{eq-eqb, le-ltb}
+use borrow.Author.Tests.{eqb-true, eq-eqb, le-ltb}
 use Rattle.octets.specs.Octets.{all, any}
-use Rattle.octets.proofs.Tests.{is-false, and-left}
+use Rattle.octets.proofs.Tests.{is-false, and-left, and-right}
 use Rattle.tack_extension.specs.Tack.{publicKey, generation}
 use Rattle.pin_model.specs.Slots.{bit, count, used}
 use Rattle.pin_model.specs.Table.{KeyRecord, Table, keyIs}
@@ -17,17 +17,19 @@ use Rattle.pin_model.specs.Layout.{areaLength, decode}
 use Rattle.pin_model.specs.Sound.{sound}
 use Rattle.pin_model.specs.Connection.{Connection, tackShown, partsOf, ConnectionTwo, tacksShown, partsTwoOf}
 use Rattle.pin_model.specs.Refusals.{first, revoked, tackTests, anyRevoked}
-use Rattle.pin_model.specs.Calls.{Call, inTwo, judge, judgeTwo, delete, inspect, start, folded, ifAny, tacksOfCall, isVerdict, areaTestsOf, tableTestsOf, refusal, floorOf, unrefused, answerBy, answer, answered, areaLeft}
-use Rattle.pin_model.specs.Demand1.{resultsOf, refusalsOf, numbersOf, isOneOf, isRefusal, floorFor, AskedAlike, Demand1}
+use Rattle.pin_model.specs.Calls.{Call, inTwo, judge, judgeTwo, delete, inspect, start, folded, ifAny, tacksOfCall, isVerdict, areaTestsOf, tableTestsOf, refusal, floorOf, unrefused, answerBy, answer, areaAfter, answered, areaLeft}
+use Rattle.pin_model.specs.OneFloor.{floorFor, isFloorOf, floorsRaised, AreBytes}
+use Rattle.pin_model.specs.Demand1.{resultsOf, refusalsOf, numbersOf, isOneOf, isRefusal, isExpired, AskedAlike, Demand1}
 use Rattle.pin_model.proofs.Lists.{any-map, any-append, count-some, none-implied}
 use Rattle.pin_model.proofs.First.{first-later}
 use Rattle.pin_model.proofs.Rules.{rules-of}
 use Rattle.pin_model.proofs.SoundFacts.{SoundFacts, sound-facts}
 use Rattle.pin_model.proofs.SoundArea.{table-sound}
-use Rattle.pin_model.proofs.AreaKept.{refused-same}
+use Rattle.pin_model.proofs.AreaKept.{refused-after}
+use Rattle.pin_model.proofs.Unchanged.{refused-by, one-byte}
 use Rattle.pin_model.proofs.Numbers.{one-of, refusal-listed, result-listed, result-low, result-room}
 
--- the four parts, of a call whose name is read as it stands
+-- the parts, of a call whose name is read as it stands
 module _ (call : Call) (b : List ℕ) where
   numbered-by : (o : Option ℕ) → refusal call b ≡ o
       → isOneOf (numbersOf call) (answerBy (inTwo call) o (unrefused call (decode b)) .number) ≡ true
@@ -43,13 +45,25 @@ module _ (call : Call) (b : List ℕ) where
   answer-numbered = numbered-by (refusal call b) refl
 
   -- a number from 10 on is a refusal's
-  was-refused : isRefusal (answer call b .number) ≡ true → {A : Type 0} → ((n : ℕ) → refusal call b ≡ some n → A) → A
+  was-refused : isRefusal (answer call b .number) ≡ true → refusal call b ≡ some (answer call b .number)
   unfolding answer
-  was-refused h {A} refused = go (refusal call b) refl h
+  was-refused h = go (refusal call b) h
     where
-      go : (o : Option ℕ) → refusal call b ≡ o → isRefusal (answerBy (inTwo call) o (unrefused call (decode b)) .number) ≡ true → A
-      go none e d = absurd (true≢false (sym d ∙ result-low call (decode b)))
-      go (some n) e d = refused n e
+      go : (o : Option ℕ) → isRefusal (answerBy (inTwo call) o (unrefused call (decode b)) .number) ≡ true
+          → o ≡ some (answerBy (inTwo call) o (unrefused call (decode b)) .number)
+      go none d = absurd (true≢false (sym d ∙ result-low call (decode b)))
+      go (some n) d = refl
+
+  area-refused : isRefusal (answer call b .number) ≡ true → (isExpired call (answer call b .number) ≡ true → AreBytes b)
+      → areaAfter call b ≡ cond (isExpired call (answer call b .number)) (floorsRaised (tacksOfCall call) b) b
+  area-refused h bytes =
+      let e = was-refused h in
+      refused-after call b (answer call b .number) e ∙ refused-by call b (answer call b .number) e bytes
+
+  area-expired : isExpired call (answer call b .number) ≡ true → AreBytes b → areaAfter call b ≡ floorsRaised (tacksOfCall call) b
+  area-expired e bytes =
+      let its : answer call b .number ≡ 23 = eqb-true (answer call b .number) 23 (and-right (not (inTwo call)) (eqb (answer call b .number) 23) e) in
+      area-refused (ap isRefusal its) (λ d. bytes) ∙ rw e
 
   answer-room : answer call b .noRoom ≡ true → isVerdict (answer call b .number) ≡ true
   unfolding answer
@@ -142,9 +156,9 @@ answer-alike : (call : Call) (b other : List ℕ) → sound b ≡ true → sound
     → isRefusal (answer call b .number) ≡ true → answer call other ≡ answer call b
 unfolding answer
 answer-alike call b other h k a refused =
-    was-refused call b refused (λ n e.
+    let e = was-refused call b refused in
     ap (λ (o : Option ℕ). answerBy (inTwo call) o (unrefused call (decode other))) (refusal-alike call b other h k a ∙ e)
-    ∙ sym (ap (λ (o : Option ℕ). answerBy (inTwo call) o (unrefused call (decode b))) e))
+    ∙ sym (ap (λ (o : Option ℕ). answerBy (inTwo call) o (unrefused call (decode b))) e)
 
 -- a call's name, in whatever spelling, changes neither its list nor the tacks that it shows
 pub tacks-folded : (call : Call) → tacksOfCall (folded call) ≡ tacksOfCall call
@@ -170,6 +184,34 @@ asked-folded call t u a =
       floors = rw (tacks-folded call) (a .floors);
     }
 
+two-folded : (call : Call) → inTwo (folded call) ≡ inTwo call
+two-folded (judge c) = refl
+two-folded (judgeTwo c) = refl
+two-folded (delete name) = refl
+two-folded (inspect second name clock) = refl
+two-folded (start two) = refl
+
+-- what is said of a refusal, of the call as it came
+module _ (call : Call) (b : List ℕ) where
+  abbrev its : ℕ
+  its = answer (folded call) b .number
+
+  expired-folded : isExpired (folded call) its ≡ isExpired call its
+  expired-folded = ap (λ (two : Bool). not two && eqb its 23) (two-folded call)
+
+  folded-unchanged : isRefusal its ≡ true → (isExpired call its ≡ true → AreBytes b)
+      → areaAfter (folded call) b ≡ cond (isExpired call its) (floorsRaised (tacksOfCall call) b) b
+  folded-unchanged refused bytes =
+      area-refused (folded call) b refused (λ e. bytes (sym expired-folded ∙ e))
+      ∙ ap₂ (λ (e : Bool) (tacks : List (List ℕ)). cond e (floorsRaised tacks b) b) expired-folded (tacks-folded call)
+
+  folded-byte : isExpired call its ≡ true → AreBytes b → (i : ℕ) → any (isFloorOf (decode b) i) (tacksOfCall call) ≡ false
+      → getD (areaAfter (folded call) b) i 0 ≡ getD b i 0
+  folded-byte e bytes i d =
+      ap (λ (a : List ℕ). getD a i 0)
+      (area-expired (folded call) b (expired-folded ∙ e) bytes ∙ ap (λ (tacks : List (List ℕ)). floorsRaised tacks b) (tacks-folded call))
+      ∙ one-byte call its b i e d
+
 pub demand1 : (call : Call) (b : List ℕ) → Demand1 call b
 unfolding answered areaLeft
 demand1 call b =
@@ -177,7 +219,8 @@ demand1 call b =
       numbered =
           ap (λ (numbers : List ℕ). isOneOf numbers (answer (folded call) b .number)) (sym (numbers-folded call))
           ∙ answer-numbered (folded call) b;
-      unchanged = λ refused. was-refused (folded call) b refused (refused-same (folded call) b);
+      unchanged = folded-unchanged call b;
+      oneByte = folded-byte call b;
       verdictWithoutRoom = answer-room (folded call) b;
       sameRefusals = λ other h k a. answer-alike (folded call) b other h k (asked-folded call (decode b) (decode other) a);
     }

@@ -19,10 +19,11 @@ use Rattle.pin_model.proofs.Lists.{count}
 use Rattle.pin_model.proofs.Places.{any-at, any-none, any-once}
 use Rattle.pin_table.specs.declared.slots.KeySlot.{KeySlot}
 use Rattle.pin_table.specs.declared.slots.NameSlot.{NameSlot}
+use Rattle.pin_model.proofs.OneSlot.{freed-set, changed-set}
 use Rattle.pin_records.specs.Find.{isFree, firstSlot, keyFound, nameFound}
 use Rattle.pin_records.specs.declared.find.FoundKey.the-variants as key-found
 use Rattle.pin_records.specs.declared.find.FoundName.the-variants as name-found
-use Rattle.pin_records.proofs.Placed.{first-at, first-none, first-passes, first-absent, Used, is-used, holds-used, free-none, free-below, free-above, placed-set, freed-set, changed-set}
+use Rattle.pin_records.proofs.Placed.{first-at, first-none, first-passes, first-absent, Used, is-used, holds-used, free-none, free-below, free-above, placed-set}
 
 -- what a loop over the slots has to show
 module _ (p : Option KeyRecord → Bool) (keys : List (Option KeyRecord)) (slots : length keys ≡ 64) where

@@ -9,32 +9,24 @@ use native.Mathlib.Omega.{arith}
 use lib.ListN.{length, getD, set, replicate}
 use borrow.Author.Tests.{eq-eqb}
 use Rattle.octets.specs.Octets.{part, put, bigEndian}
-use Rattle.octets.proofs.Parts.{set-put, set-inside, put-nested, put-length}
+use Rattle.octets.proofs.Parts.{set-inside, put-length}
 use Rattle.octets.proofs.Numbers.{bigEndian-length}
 use Rattle.octets.proofs.Equal.{same-refl}
 use Rattle.pin_model.specs.Table.{KeyRecord, NameRecord, Table, keyIs, keyRecorded, settledAt, keyRecord, nameRecord}
-use Rattle.pin_model.specs.Layout.{placeOf, keyAt, encodeKey, encodeName, encode, keySlot, nameSlot}
+use Rattle.pin_model.specs.Layout.{placeOf, keyAt, encodeKey, encodeName, encode, nameSlot}
 use Rattle.pin_model.specs.Fits.{holds, fourBytes, nameFits, Fits}
 use Rattle.pin_model.proofs.Places.{freeOr, any-at}
 use Rattle.pin_model.proofs.KeyPlaces.{place-once}
 use Rattle.pin_model.proofs.Fits.{NameFits, name-fits, fits-name, name-fits-at}
 use Rattle.pin_model.proofs.NameBytes.{name-length}
-use Rattle.pin_model.proofs.Encoded.{encode-length, encode-key-slot, encode-name-slot}
+use Rattle.pin_model.proofs.Encoded.{encode-length, encode-name-slot}
 use Rattle.pin_model.proofs.Written.{write-latest}
 use Rattle.pin_model.proofs.Kept.{KeyWritten, NameWritten, fits-latest, floor-written, new-key-written, name-written}
+use Rattle.pin_model.proofs.FloorByte.{in-slot, floor-set}
 use Rattle.pin_records.specs.Holds.{Distinct, Holds, withKey, withName}
 use Rattle.pin_records.specs.Find.{isFree}
 use Rattle.pin_records.specs.Store.{withFloor, withEnd, Fresh}
 use Rattle.pin_records.proofs.DistinctNames.{distinct-same, distinct-added}
-
--- a change in a slot s of w bytes is the slot put anew
-in-slot : (b s : List ℕ) (at w i : ℕ) (vs : List ℕ) → part b at w ≡ s → at + w ≤ length b → i + length vs ≤ w
-    → put b (at + i) vs ≡ put b at (put s i vs)
-in-slot b s at w i vs e room l = sym (put-nested b at w i vs room l) ∙ ap (λ (r : List ℕ). put b at (put r i vs)) e
-
-new-floor : (x : KeyRecord) (floor : ℕ) → put (encodeKey (some x)) 1 (floor ∷ []) ≡ encodeKey (withFloor floor (some x))
-unfolding put encodeKey
-new-floor x floor = refl
 
 new-end : (keys : List (Option KeyRecord)) (r : NameRecord) (end : ℕ)
     → set (put (encodeName keys (some r)) 8 (bigEndian 4 end)) 3 1 ≡ encodeName keys (withEnd end (some r))
@@ -54,34 +46,28 @@ new-name keys k clock name key l short e =
     let size : length name % 256 ≡ length name = mod-eq-of-lt (omega arith) in
     rw (number, size, e) refl
 
+held : {d : List ℕ} {u : Table} → Fits u → Distinct (u .two) (u .names) → d ≡ encode u → Holds d u
+held {d} {u} fits distinct bytes = record { bytes = bytes; long = ap length bytes ∙ encode-length u fits; fits = fits; distinct = distinct }
+
 module _ {b : List ℕ} {t : Table} (h : Holds b t) where
   -- what stands in a used slot
-  key-there : (k : ℕ) (x : KeyRecord) → k < 64 → getD (t .keys) k none ≡ some x → part b (8 + 72 * k) 72 ≡ encodeKey (some x)
-  unfolding keySlot
-  key-there k x l e = ap (λ (a : List ℕ). keySlot a k) (h .bytes) ∙ encode-key-slot t (h .fits) k l ∙ ap encodeKey e
-
   name-there : (n : ℕ) (r : NameRecord) → n < 128 → getD (t .names) n none ≡ some r → part b (4616 + 272 * n) 272 ≡ encodeName (t .keys) (some r)
   unfolding nameSlot
   name-there n r l e = ap (λ (a : List ℕ). nameSlot a n) (h .bytes) ∙ encode-name-slot t (h .fits) n l ∙ ap (encodeName (t .keys)) e
 
   -- a slot put into the area
   key-put : {d : List ℕ} {k : ℕ} {x : Option KeyRecord} → KeyWritten t k x → d ≡ put b (8 + 72 * k) (encodeKey x) → Holds d (withKey t k x)
-  key-put {d} {k} {x} w e =
-      let bytes : d ≡ encode (withKey t k x) = e ∙ ap (λ (a : List ℕ). put a (8 + 72 * k) (encodeKey x)) (h .bytes) ∙ w .area in
-      record { bytes = bytes; long = ap length bytes ∙ encode-length (withKey t k x) (w .fits); fits = w .fits; distinct = h .distinct }
+  key-put {d} {k} {x} w e = held (w .fits) (h .distinct) (e ∙ ap (λ (a : List ℕ). put a (8 + 72 * k) (encodeKey x)) (h .bytes) ∙ w .area)
 
   name-put : {d : List ℕ} {n : ℕ} {x : Option NameRecord} → NameWritten t n x → Distinct (t .two) (set (t .names) n x)
       → d ≡ put b (4616 + 272 * n) (encodeName (t .keys) x) → Holds d (withName t n x)
   name-put {d} {n} {x} w distinct e =
-      let bytes : d ≡ encode (withName t n x) = e ∙ ap (λ (a : List ℕ). put a (4616 + 272 * n) (encodeName (t .keys) x)) (h .bytes) ∙ w .area in
-      record { bytes = bytes; long = ap length bytes ∙ encode-length (withName t n x) (w .fits); fits = w .fits; distinct = distinct }
+      held (w .fits) distinct (e ∙ ap (λ (a : List ℕ). put a (4616 + 272 * n) (encodeName (t .keys) x)) (h .bytes) ∙ w .area)
 
   -- the stores
   pub latest-stored : {d : List ℕ} (v : ℕ) → v < fourBytes → d ≡ put b 0 (bigEndian 4 v) → Holds d (settledAt v t)
   latest-stored {d} v l e =
-      let bytes : d ≡ encode (settledAt v t) = e ∙ ap (λ (a : List ℕ). put a 0 (bigEndian 4 v)) (h .bytes) ∙ write-latest t v in
-      let fits : Fits (settledAt v t) = fits-latest t (h .fits) v l in
-      record { bytes = bytes; long = ap length bytes ∙ encode-length (settledAt v t) fits; fits = fits; distinct = h .distinct }
+      held (fits-latest t (h .fits) v l) (h .distinct) (e ∙ ap (λ (a : List ℕ). put a 0 (bigEndian 4 v)) (h .bytes) ∙ write-latest t v)
 
   pub floor-stored : (k floor : ℕ) → k < 64 → isFree (getD (t .keys) k none) ≡ false
       → Holds (set b (8 + 72 * k + 1) floor) (withKey t k (withFloor floor (getD (t .keys) k none)))
@@ -91,10 +77,8 @@ module _ {b : List ℕ} {t : Table} (h : Holds b t) where
           → Holds (set b (8 + 72 * k + 1) floor) (withKey t k (withFloor floor y))
       go none e u = absurd (true≢false u)
       go (some x) e u =
-          key-put (floor-written t (h .fits) k x floor l e)
-          (set-put b (8 + 72 * k + 1) floor (omega (arith, h .long))
-          ∙ in-slot b (encodeKey (some x)) (8 + 72 * k) 72 1 (floor ∷ []) (key-there k x l e) (omega (arith, h .long)) (omega arith)
-          ∙ ap (put b (8 + 72 * k)) (new-floor x floor))
+          held (floor-written t (h .fits) k x floor l e .fits) (h .distinct)
+          (ap (λ (a : List ℕ). set a (8 + 72 * k + 1) floor) (h .bytes) ∙ floor-set t (h .fits) k x floor l e)
 
   pub key-stored : {d : List ℕ} (k floor : ℕ) (key : List ℕ) → k < 64 → isFree (getD (t .keys) k none) ≡ true → length key ≡ 64
       → keyRecorded key t ≡ false → d ≡ put b (8 + 72 * k) (1 ∷ (floor ∷ (replicate 6 0 ++ key)))

@@ -12,13 +12,13 @@ use Rattle.pin_model.specs.Layout.{areaLength, encode, decode}
 use Rattle.pin_model.specs.Sound.{sound}
 use Rattle.pin_model.specs.SoundTable.{soundTable}
 use Rattle.pin_model.specs.Refusals.{first, areaTests, nameTest}
-use Rattle.pin_model.specs.Calls.{Call, inTwo, judgement, refusal, unrefused, tableAfter, answerBy, answer, areaAfter}
+use Rattle.pin_model.specs.Calls.{Call, inTwo, judgement, refusal, unrefused, tableAfter, answerBy, answer, refusedArea, areaAfter}
 use Rattle.pin_model.proofs.Rules.{rules-of}
 use Rattle.pin_model.proofs.First.{first-here, first-later}
 use Rattle.pin_model.proofs.Refusals.{AreaFacts, area-facts}
 use Rattle.pin_model.proofs.SoundArea.{SoundArea, sound-decode, sound-fits}
 use Rattle.pin_model.proofs.SoundFacts.{SoundFacts, sound-facts}
-use Rattle.pin_model.proofs.AreaKept.{refused-same, passed-after}
+use Rattle.pin_model.proofs.AreaKept.{refused-after, passed-after}
 use Rattle.pin_records.specs.Holds.{Stored}
 
 -- a sound area passes 10 and 11
@@ -42,8 +42,8 @@ module _ (call : Call) (b : List ℕ) where
   unfolding answer
   answer-by o e = ap (λ (o : Option ℕ). answerBy (inTwo call) o (unrefused call (decode b))) e
 
-  pub call-refused : (n : ℕ) → refusal call b ≡ some n → (judgement (inTwo call) n false ≡ answer call b) × (b ≡ areaAfter call b)
-  call-refused n e = (sym (answer-by (some n) e), sym (refused-same call b n e))
+  pub call-refused : (n : ℕ) → refusal call b ≡ some n → (judgement (inTwo call) n false ≡ answer call b) × (refusedArea call n b ≡ areaAfter call b)
+  call-refused n e = (sym (answer-by (some n) e), sym (refused-after call b n e))
 
   pub call-passed : refusal call b ≡ none → (unrefused call (decode b) ≡ answer call b) × (encode (tableAfter call (decode b)) ≡ areaAfter call b)
   call-passed e = (sym (answer-by none e), sym (passed-after call b e))

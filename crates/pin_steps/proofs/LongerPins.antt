@@ -20,7 +20,7 @@ use Rattle.pin_model.proofs.Initials.{record-initial}
 use Rattle.pin_records.specs.Holds.{Holds, withName}
 use Rattle.pin_records.specs.Find.{initialAt}
 use Rattle.pin_records.specs.Store.{withEnd}
-use Rattle.pin_records.proofs.Placed.{changed-none, changed-set}
+use Rattle.pin_model.proofs.OneSlot.{changed-none, changed-set}
 use Rattle.pin_records.proofs.DistinctNames.{one-record}
 use Rattle.pin_records.proofs.Found.{FoundAt, found-any}
 use Rattle.pin_steps.specs.Steps.{extendedAt}

@@ -2,7 +2,7 @@
 
 use std::fmt;
 
-/// Why a call was refused.
+/// Why a call was refused. A refusal leaves the table as it was, but for one floor at [`Refusal::Expired`].
 ///
 /// Where several reasons apply in edition one, the one with the lowest number is given, but 27 next to 11. In edition two the
 /// order is 10, 11, 27, 12 to 16, 24; then 18, 19, 23, 20, 21 of the first tack, and the same of the second; then 22 of either.
@@ -37,6 +37,11 @@ pub enum Refusal {
     /// 22: the generation is below the stored floor of the key: it is revoked.
     GenerationRevoked = 22,
     /// 23: the tack has expired. In edition two it does so at its expiration, in edition one a minute after it.
+    ///
+    /// An expired tack still revokes. In edition one this refusal raises the floor of the tack's key to the tack's
+    /// min_generation, if the key has a record with a lower one: tacks of lower generations are then
+    /// [revoked](Refusal::GenerationRevoked). Nothing else in the table changes, so a table that is kept is kept anew after it.
+    /// In edition two it changes nothing.
     Expired = 23,
     /// 24: the two tacks of edition two have one key.
     OneKeyTwice = 24,

@@ -1,8 +1,9 @@
 -- Each refusal is the first that applies; where none does, the steps give the answer.
 use mathlib.Core.Path.{sym, ap, _∙_}
+use mathlib.Core.Option.{some}
 use borrow.Author.Needs.{needs}
 use Rattle.pin_answers.specs.Numbers.{checkedNumber}
-use Rattle.pin_judge.proofs.Passing.{passed-in-order, passed-read, refused-shown, judged-so}
+use Rattle.pin_judge.proofs.Passing.{passed-in-order, passed-read, expired-tack, refused-so, judged-so}
 use Rattle.pin_judge.proofs.judge_at.Statement.{statement}
 use Rattle.pin_judge.proofs.judge_at.Tie as tie
 
@@ -16,15 +17,24 @@ check-connection-requires c κs = search needs
 enum-known-refusal : tie.Need-enum-known-refusal
 enum-known-refusal c = search needs
 
+refuse-requires : tie.Need-refuse-requires
+refuse-requires c κs =
+    let s = c .before .before .before .before .before .before .before .before .before .before in
+    let a = s .args in
+    (s .pre .1 .stored, λ e.
+    expired-tack (a .clock .0) (a .name .now) (a .extension .now) (a .hash .now) (a .checks) (a .area .now)
+    (sym (c .before .before .before .before .check-connection .ensures) ∙ ap checkedNumber (c .before .before .refusal .given .1) ∙ ap some e))
+
 same-length : tie.Need-same-length
 same-length c = search needs
 
 returns : tie.Need-returns
 returns c =
-    let s = c .before .before .before .before .before .before .before .before .before in
+    let s = c .before .before .before .before .before .before .before .before .before .before .before .before .before in
     let a = s .args in
-    refused-shown (a .clock .0) (a .name .now) (a .extension .now) (a .hash .now) (a .checks) (a .area .now) (s .pre .0) (s .pre .1) _
-    (sym (c .before .before .before .check-connection .ensures) ∙ ap checkedNumber (c .before .refusal .given .1))
+    refused-so (a .clock .0) (a .name .now) (a .extension .now) (a .hash .now) (a .checks) (a .area .now) (s .pre .0) (s .pre .1) _
+    (sym (c .before .before .before .before .before .before .before .check-connection .ensures) ∙ ap checkedNumber (c .before .before .before .before .before .refusal .given .1))
+    _ _ (c .before .before .refuse .ensures)
 
 enum-told : tie.Need-enum-told
 enum-told c = search needs
@@ -45,6 +55,7 @@ judge-at-spec =
     (tie.spec
     check-connection-requires
     enum-known-refusal
+    refuse-requires
     same-length
     returns
     enum-told
