@@ -1,9 +1,10 @@
 //! The judge of edition one: one finished connection, a lent pin table, a
 //! verdict.
 //!
-//! All refusals come before the first change, so a refused call leaves the
-//! table as it was. The table is lent as an area, or kept parsed by a caller
-//! with many calls.
+//! Every refusal but 23 comes before the first change, so it leaves the table as
+//! it was. "An expired tack still revokes": 23 comes when the floor is raised,
+//! and before any other change. The table is lent as an area, or kept parsed by
+//! a caller with many calls.
 
 use crate::answer::{
     alert_of, BREAK_SIGNATURE_INCORRECT, CONFIRMED, CONTRADICTED, EXPIRED, EXTENSION_MALFORMED,
@@ -72,14 +73,21 @@ fn judge_area(area: &mut [u8], connection: &Connection) -> Result<Judgement, u8>
     Ok(judgement)
 }
 
-/// A verdict, or the number of the refusal.
+/// A judgement that may have changed the table, a verdict or 23; or the number
+/// of a refusal that has not.
 fn decide(table: &mut PinTable, connection: &Connection) -> Result<Judgement, u8> {
     let mut case = Case::admit(table, connection)?;
-    let no_room = case.take_steps().is_err();
+    // Document 000 "raises the floor before 5.3.3 looks at expiration".
+    case.raise_floor();
+    if case.is_expired() {
+        return Ok(Judgement::refusal(EXPIRED));
+    }
+    let no_room = case.take_further_steps().is_err();
     Ok(Judgement::new(case.verdict(), no_room))
 }
 
-/// A connection that no refusal applies to, with the table it is judged by.
+/// A connection that no refusal below 23 applies to, with the table it is
+/// judged by.
 struct Case<'a> {
     table: &'a mut PinTable,
     name: FoldedName,
@@ -89,6 +97,7 @@ struct Case<'a> {
 
 impl<'a> Case<'a> {
     /// The lowest number that applies is the refusal, 27 counting as next to 11.
+    /// 23 is then the last in order, and not looked at here.
     fn admit(table: &'a mut PinTable, connection: &Connection) -> Result<Case<'a>, u8> {
         let (name, clock) = admit(
             table,
@@ -128,13 +137,26 @@ impl<'a> Case<'a> {
         refuse_if(hash_unequal, TARGET_HASH_UNEQUAL)?;
         refuse_if(!connection.signature_correct, TACK_SIGNATURE_INCORRECT)?;
         let revoked = self.table.revokes(&tack.public_key, tack.generation);
-        refuse_if(revoked, GENERATION_BELOW_FLOOR)?;
-        refuse_if(tack.expiration < self.clock, EXPIRED)
+        refuse_if(revoked, GENERATION_BELOW_FLOOR)
     }
 
-    /// The steps in the paper's order. Without room the call goes on, so that
-    /// one tenant's scan cannot freeze the others.
-    fn take_steps(&mut self) -> Result<(), NoRoom> {
+    /// The first step, for an expired tack too. A key without a record gets none.
+    fn raise_floor(&mut self) {
+        if let Some(tack) = &self.extension.tack {
+            self.table
+                .raise_floor(&tack.public_key, tack.min_generation);
+        }
+    }
+
+    /// Without a tack nothing expires.
+    fn is_expired(&self) -> bool {
+        let tack = self.extension.tack.as_ref();
+        tack.is_some_and(|tack| tack.expiration < self.clock)
+    }
+
+    /// The steps after the first, in the paper's order. Without room the call
+    /// goes on, so that one tenant's scan cannot freeze the others.
+    fn take_further_steps(&mut self) -> Result<(), NoRoom> {
         let room = self.learn_from_tack();
         for broken in &self.extension.breaks {
             self.table.remove_key(&broken.public_key);
@@ -148,7 +170,6 @@ impl<'a> Case<'a> {
             return Ok(());
         };
         let key = &tack.public_key;
-        self.table.raise_floor(key, tack.min_generation);
         match self.table.pin_of(&self.name) {
             Some((_, key_record)) if key_record.key == *key => {
                 if self.extension.activation {

@@ -2,7 +2,7 @@
 //! lent pin table with up to two pins of a name, a verdict.
 //!
 //! All refusals come before the first change, so a refused call leaves the
-//! table as it was.
+//! table as it was. That is so for 23 as well: "there 23 raises no floor".
 
 use crate::answer::{
     alert_of_two, CONFIRMED, CONTRADICTED, EXPIRED, EXTENSION_MALFORMED, GENERATION_BELOW_FLOOR,

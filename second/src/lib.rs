@@ -21,8 +21,9 @@
 //! Every function answers for every input, but for `Minutes::since` and
 //! `Minutes::active_period_end`: they panic at a clock before initial, which
 //! no call on a lent area or a kept table brings about. A refusal leaves the
-//! lent memory byte for byte as it was. A caller's name may have capitals,
-//! which count as small letters everywhere; a table with a capital is damaged.
+//! lent memory byte for byte as it was, but that 23 of edition one may raise one
+//! floor. A caller's name may have capitals, which count as small letters
+//! everywhere; a table with a capital is damaged.
 
 #![forbid(unsafe_code)]
 

@@ -168,7 +168,7 @@ fn a_mixed_list_gives_the_bytes_of_the_small_one() {
         );
     }
     assert!(deleted > 0);
-    assert!(parse(&mixed_area).unwrap().name_records().count() > 100);
+    assert!(parse(&mixed_area).unwrap().name_records().count() > 80);
 }
 
 #[track_caller]

@@ -1,7 +1,8 @@
 //! A plain journal of the calls, which never sees the table, kept beside it.
 //!
 //! Row for row the journal and the table must agree, and so must "no room".
-//! The journal reads every name folded; the calls have any spelling.
+//! The journal reads every name folded; the calls have any spelling. It also
+//! keeps the floors, which calls answered 23 raise as well as verdicts.
 
 use std::collections::{HashMap, HashSet};
 
@@ -36,6 +37,7 @@ struct Shown {
     key: u8,
     min_generation: u8,
     activation: bool,
+    expired: bool,
 }
 
 impl Journal {
@@ -47,10 +49,14 @@ impl Journal {
         no_room
     }
 
-    fn learn(&mut self, clock: u64, name: &str, shown: &Shown) -> bool {
+    fn raise_floor(&mut self, shown: &Shown) {
         if let Some(floor) = self.floors.get_mut(&shown.key) {
             *floor = shown.min_generation.max(*floor);
         }
+    }
+
+    fn learn(&mut self, clock: u64, name: &str, shown: &Shown) -> bool {
+        self.raise_floor(shown);
         if let Some(row) = self.rows.get_mut(name) {
             if row.key == shown.key {
                 if shown.activation {
@@ -161,6 +167,7 @@ fn judge_both(
         key: random.below(mix.keys) as u8,
         min_generation: random.below(4) as u8,
         activation: random.below(2) == 1,
+        expired: random.below(6) == 0,
     });
     let mut broken = Vec::new();
     while random.below(mix.one_break_in) == 0 && broken.len() < 8 {
@@ -168,7 +175,14 @@ fn judge_both(
     }
     let bytes = extension_of(shown.as_ref(), &broken);
     let call = Call::at(clock, name).with(bytes);
+    let latest_before = latest(area);
     let judgement = respelled(random, &call).judge(area);
+    if let Some(shown) = shown.as_ref().filter(|shown| shown.expired) {
+        journal.raise_floor(shown);
+        assert_eq!((judgement.number, judgement.no_room), (23, false));
+        assert_eq!(latest(area), latest_before);
+        return false;
+    }
     let no_room = journal.judged(clock, name, shown.as_ref(), &broken);
     assert_eq!(judgement.no_room, no_room);
     assert_eq!(latest(area), clock as u32);
@@ -185,7 +199,8 @@ fn judge_both(
 
 fn extension_of(shown: Option<&Shown>, broken: &[u8]) -> Vec<u8> {
     let tack = shown.map_or(Vec::new(), |shown| {
-        tack(key(shown.key), shown.min_generation, 3, u32::MAX)
+        let expiration = if shown.expired { 0 } else { u32::MAX };
+        tack(key(shown.key), shown.min_generation, 3, expiration)
     });
     let broken_keys = broken.iter().map(|number| key(*number));
     let breaks: Vec<u8> = broken_keys.flat_map(break_signature).collect();

@@ -4,6 +4,7 @@ mod calls;
 mod calls_two;
 mod capitals;
 mod examples;
+mod expired;
 mod extension;
 mod extension_two;
 mod journal;

@@ -269,7 +269,8 @@ fn any_call(random: &mut Random, clock: u64) -> Call {
         _ => {
             let key = any_key(random);
             let generation = 3 + random.below(2) as u8;
-            let tack = tack(key, random.below(5) as u8, generation, clock as u32);
+            let expiration = clock as u32 - u32::from(random.below(8) == 0);
+            let tack = tack(key, random.below(5) as u8, generation, expiration);
             call.with(extension(&tack, &[], random.below(2) as u8))
         }
     }
@@ -369,6 +370,8 @@ fn nights_by_the_judge_of_the_area() {
         assert_eq!(replay(night.as_slice(), io::sink()).unwrap(), tally);
         let sum: u32 = tally.counts.iter().sum();
         assert_eq!(sum, 1500);
+        // An expired tack may be what revokes a later one.
+        assert!(tally.counts[22] > 0 && tally.counts[23] > 0);
     }
 }
 

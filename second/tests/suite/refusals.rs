@@ -144,6 +144,7 @@ fn a_hash_of_another_length_is_unequal() {
     }
 }
 
+/// 23 is the one refusal that does.
 #[test]
 fn a_refused_tack_does_not_raise_the_floor() {
     let area = pinned();
@@ -151,10 +152,6 @@ fn a_refused_tack_does_not_raise_the_floor() {
     let mut call = Call::at(1000, "a.b").with(raising);
     call.hash = vec![0; 32];
     call.is_refused(&area, 20, 47);
-    let expired = extension(&tack(K, 9, 9, 999), &[], 1);
-    Call::at(1000, "a.b")
-        .with(expired)
-        .is_refused(&area, 23, 45);
 }
 
 #[test]

@@ -1,4 +1,5 @@
-//! Any bytes of any length get an answer, and a refusal changes nothing.
+//! Any bytes of any length get an answer, and a refusal changes nothing, but that
+//! 23 of edition one may change a floor.
 
 use second::extension::{breaks_span, read, signed_bytes, tack_span, write};
 use second::{delete, extension_two, inspect, is_sound, is_well_formed, start};
@@ -98,8 +99,11 @@ fn answers_are_consistent(random: &mut Random, area: &[u8]) {
     let spelling = any_spelling(random, name.as_bytes());
     let clock = [0, 999, 1000, 1001, 50_000, u64::MAX][random.below(6) as usize];
     let mut call = respelled(random, &Call::at(clock, &name));
-    if random.below(2) == 0 {
-        call = call.with(showing(key(random.below(6) as u8)));
+    let shown = key(random.below(6) as u8);
+    match random.below(3) {
+        0 => {}
+        1 => call = call.with(showing(shown)),
+        _ => call = call.with(extension(&tack(shown, 4, 5, 999), &[], 1)),
     }
     let mut call_two = CallTwo::at(clock, &name);
     if random.below(2) == 0 {
@@ -135,9 +139,14 @@ fn is_judged(area: &[u8], same_edition: bool, judge: impl Fn(&mut [u8]) -> u8) {
     let sound = is_sound(area);
     assert_eq!(number >= 12 || number <= 2, sound);
     assert_eq!(number == 27, sound && !same_edition);
-    assert!(if number <= 2 {
-        is_sound(&after)
-    } else {
-        after == area
+    assert!(match number {
+        0..=2 => is_sound(&after),
+        23 => is_sound(&after) && changed_bytes(area, &after) <= 1,
+        _ => after == area,
     });
+}
+
+fn changed_bytes(before: &[u8], after: &[u8]) -> usize {
+    let bytes = before.iter().zip(after);
+    bytes.filter(|(before, after)| before != after).count()
 }
