@@ -1,12 +1,13 @@
 -- The area's refusals and its edition's; where an extension came, the later ones, what is known where none applies, and the answer then.
 use mathlib.Core.Path.{_≡_, refl, sym, ap, ap₂, _∙_}
-use mathlib.Core.Bool.{Bool, true, false, cond, not, false≢true}
+use mathlib.Core.Bool.{Bool, true, false, cond, not}
 use mathlib.Core.List.{List, [], _∷_, _++_, map}
 use mathlib.Core.Option.{none, some}
 use Prim.Native.Nat.{ℕ, _≤_}
+use native.Mathlib.Omega.{arith}
 use lib.Dec.{eqb, ltb}
 use lib.ListN.{length, getD}
-use borrow.Author.Tests.{ltb-false, le-ltb, not-true}
+use borrow.Author.Tests.{ltb-true, ltb-false, le-ltb, not-true}
 use Rattle.octets.proofs.Numbers.{Bytes}
 use Rattle.octets.proofs.Options.{byOption, never-some, some-injective}
 use Rattle.host_name.specs.Name.{wellFormed}
@@ -112,15 +113,16 @@ module _ (clock : ℕ) (name bytes hash : List ℕ) (checks : Checks) (b : List 
         (w .0 ∙ g .0, w .1 ∙ g .1)
 
   -- '18 to 23 need a tack'
-  pub expired-tack : first shown ≡ some 23 → length (tackPart bytes) ≡ 166
+  pub tack-came : (n : ℕ) → first shown ≡ some n → 18 ≤ n → length (tackPart bytes) ≡ 166
   unfolding partsOf tackPart tackShown
-  expired-tack e =
+  tack-came n e late =
       byOption (unlessEmpty (tackPart bytes))
       (λ tack d. ap length (is-shown (tackPart bytes) tack d) ∙ tack-length it tack d)
-      (λ d. absurd (false≢true (first-number (λ m. not (eqb m 23))
-      (handshakeTests clock (checks .«handshake_finished») (decode b)
-      ++ (formTest (parse bytes) ++ breaksTest (breakSignatures (breaksPart bytes)) (checks .«breaks_correct»)))
-      23 refl (rw d at e))))
+      (λ d.
+      let earlier : List (Bool × ℕ) =
+      handshakeTests clock (checks .«handshake_finished») (decode b)
+      ++ (formTest (parse bytes) ++ breaksTest (breakSignatures (breaksPart bytes)) (checks .«breaks_correct»)) in
+      absurd (omega (arith, ltb-true n 18 (first-number (λ m. ltb m 18) earlier n refl (rw d at e)))))
 
   -- what the tests that passed say: 14, and 16
   module _ (r : Checked) (its : checkedNumber r ≡ first shown) (passes : r ≡ Passed) where

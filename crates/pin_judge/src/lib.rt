@@ -19,6 +19,7 @@ use tack_extension::reader::Reading;
 ghost use mathlib.Core.Path.{_≡_};
 ghost use mathlib.Core.Bool.{true, false, cond};
 ghost use mathlib.Core.List.{map};
+ghost use Prim.Native.Nat.{_≤_};
 ghost use lib.Dec.{eqb};
 ghost use lib.ListN.{length};
 ghost use Rattle.tack_extension.specs.Extension.{parse, tackLength, tackPart, breaksLength, breaksPart};
@@ -91,7 +92,7 @@ fn apply_shown(area: &mut [u8], name: &[u8], clock: Minutes, extension: &[u8]) -
 
 // A refusal behind 13. An expired tack still revokes: at 23 the floor of its key's record rises, and nothing else changes.
 fn refuse(area: &mut [u8], extension: &[u8], refusal: Refusal) -> Judgement
-    requires { ⌜ Stored (now area) × (refusalNumber refusal ≡ 23 → length (tackPart (now extension)) ≡ 166) ⌝ }
+    requires { ⌜ Stored (now area) × (18 ≤ refusalNumber refusal → length (tackPart (now extension)) ≡ 166) ⌝ }
     ensures { λ r. ⌜ (judgementAnswer r ≡ calls.plain (refusalNumber refusal)) × (now (area .exit) ≡ cond (eqb (refusalNumber refusal) 23) (encode (raiseShown (unlessEmpty (tackPart (now (extension .entry)))) (decode (now (area .entry))))) (now (area .entry))) ⌝ }
 {
     if let Refusal::Expired = refusal {

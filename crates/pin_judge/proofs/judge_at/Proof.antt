@@ -1,9 +1,8 @@
 -- Each refusal is the first that applies; where none does, the steps give the answer.
 use mathlib.Core.Path.{sym, ap, _∙_}
-use mathlib.Core.Option.{some}
 use borrow.Author.Needs.{needs}
 use Rattle.pin_answers.specs.Numbers.{checkedNumber}
-use Rattle.pin_judge.proofs.Passing.{passed-in-order, passed-read, expired-tack, refused-so, judged-so}
+use Rattle.pin_judge.proofs.Passing.{passed-in-order, passed-read, tack-came, refused-so, judged-so}
 use Rattle.pin_judge.proofs.judge_at.Statement.{statement}
 use Rattle.pin_judge.proofs.judge_at.Tie as tie
 
@@ -21,9 +20,8 @@ refuse-requires : tie.Need-refuse-requires
 refuse-requires c κs =
     let s = c .before .before .before .before .before .before .before .before .before .before in
     let a = s .args in
-    (s .pre .1 .stored, λ e.
-    expired-tack (a .clock .0) (a .name .now) (a .extension .now) (a .hash .now) (a .checks) (a .area .now)
-    (sym (c .before .before .before .before .check-connection .ensures) ∙ ap checkedNumber (c .before .before .refusal .given .1) ∙ ap some e))
+    (s .pre .1 .stored, tack-came (a .clock .0) (a .name .now) (a .extension .now) (a .hash .now) (a .checks) (a .area .now) _
+    (sym (c .before .before .before .before .check-connection .ensures) ∙ ap checkedNumber (c .before .before .refusal .given .1)))
 
 same-length : tie.Need-same-length
 same-length c = search needs

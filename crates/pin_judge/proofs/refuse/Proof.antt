@@ -1,5 +1,7 @@
--- At 23 step 1, and at the others nothing.
+-- At 23 step 1, and at the others nothing. What `raise_floor` asks holds at any number from 18 on, so that a floor raised at another of
+-- them is refused by what it leaves.
 use mathlib.Core.Path.{refl, ap, _∙_}
+use native.Mathlib.Omega.{arith}
 use borrow.Author.Needs.{needs}
 use lib.ListN.{length}
 use Rattle.tack_extension.specs.Extension.{tackPart}
@@ -17,7 +19,7 @@ tack-part-requires c κs = search needs
 raise-floor-requires : tie.Need-raise-floor-requires
 raise-floor-requires c κs =
     let s = c .before .before .before .before .before .before in
-    (s .pre .0, ap length (c .tack-part .ensures) ∙ s .pre .1 (ap refusalNumber (c .before .before .enum-told .given .1)))
+    (s .pre .0, ap length (c .tack-part .ensures) ∙ s .pre .1 (omega (arith, ap refusalNumber (c .before .before .enum-told .given .1))))
 
 same-length : tie.Need-same-length
 same-length c = search needs
@@ -26,7 +28,7 @@ returns : tie.Need-returns
 returns c =
     let s = c .before .before .before .before .before .before .before .before .before in
     let expired = c .before .before .before .before .before .enum-told .given .1 in
-    (refl, expired-left (s .args .refusal) _ _ expired (s .pre .1 (ap refusalNumber expired)) (c .before .before .before .tack-part .ensures) (c .before .before .raise-floor .ensures))
+    (refl, expired-left (s .args .refusal) _ _ expired (s .pre .1 (omega (arith, ap refusalNumber expired))) (c .before .before .before .tack-part .ensures) (c .before .before .raise-floor .ensures))
 
 returns-2 : tie.Need-returns-2
 returns-2 c =
