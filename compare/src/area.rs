@@ -211,9 +211,21 @@ pub fn other(edition: Edition) -> Edition {
     }
 }
 
-/// Whether an area, lent as bytes, is the empty table of the edition.
-pub fn is_empty(area: &[u8], edition: Edition) -> bool {
-    area == Area::of_edition(edition).bytes
+/// The first byte in which two areas of one length differ.
+pub fn first_difference(one: &[u8], two: &[u8]) -> Option<usize> {
+    match one == two {
+        true => None,
+        false => one.iter().zip(two).position(|(one, two)| one != two),
+    }
+}
+
+/// A byte of an area in words; a floor by its name, since 23 changes one alone.
+pub fn place(at: usize) -> String {
+    let in_keys = at.checked_sub(8).map(|at| (at / 72, at % 72));
+    match in_keys {
+        Some((slot, 1)) if slot < KEY_SLOTS => format!("the floor of key slot {slot} (byte {at})"),
+        _ => format!("byte {at}"),
+    }
 }
 
 /// The first used name slot of an area, lent as bytes, whose name has a capital.

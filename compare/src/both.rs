@@ -2,6 +2,7 @@
 
 use crate::area;
 use crate::call::{Answer, By, Call};
+use crate::kept;
 use tack::raw;
 use tack::table::Refusal;
 
@@ -20,7 +21,8 @@ pub fn is_sound(table: &[u8]) -> Result<bool, String> {
     }
 }
 
-/// Runs the call by both and compares every field of the answer and every byte of the table, which is left as both left it.
+/// Runs the call by both and compares every field of the answer and every byte of the table, which is left as both left it;
+/// where the number says what that is, it is compared with this too.
 pub fn call(table: &mut [u8], call: &Call) -> Result<Answer, String> {
     let given = by_both(call, table)
         .map_err(|problem| format!("{problem}; numbers in hexadecimal: {call:02x?}"))?;
@@ -33,12 +35,11 @@ fn by_both(call: &Call, before: &[u8]) -> Result<Given, String> {
     let (proved, second) = (proved?, second?);
     proved.same_as(&second, ["proved", "second"])?;
     let answer = proved.answer;
-    if !is_kept(call, answer.number, before, &proved.table) {
-        Err(format!("both changed the table with {answer:?}"))
-    } else if answer.number >= 10 && Refusal::try_from(answer.number).is_err() {
-        Err(format!("the safe crate knows no refusal of {answer:?}"))
-    } else {
-        Ok(proved)
+    kept::check(call, answer.number, before, &proved.table)
+        .map_err(|problem| format!("both agree, but {problem}: {answer:?}"))?;
+    match answer.number >= 10 && Refusal::try_from(answer.number).is_err() {
+        true => Err(format!("the safe crate knows no refusal of {answer:?}")),
+        false => Ok(proved),
     }
 }
 
@@ -78,11 +79,14 @@ impl Given {
                 "the answers differ: {one} {answer:?}, {two} {other:?}"
             ));
         }
-        match first_difference(&self.table, &other.table) {
+        match area::first_difference(&self.table, &other.table) {
             None => Ok(()),
             Some(at) => Err(format!(
-                "the tables differ at byte {at}: {one} {}, {two} {}; both answered {:?}",
-                self.table[at], other.table[at], self.answer
+                "the tables differ at {}: {one} {}, {two} {}; both answered {:?}",
+                area::place(at),
+                self.table[at],
+                other.table[at],
+                self.answer
             )),
         }
     }
@@ -96,21 +100,5 @@ impl Given {
             )),
             _ => Ok(()),
         }
-    }
-}
-
-fn first_difference(one: &[u8], two: &[u8]) -> Option<usize> {
-    match one == two {
-        true => None,
-        false => one.iter().zip(two).position(|(one, two)| one != two),
-    }
-}
-
-/// Whether the table is the same after a number that says so, and empty after starting.
-fn is_kept(call: &Call, number: u8, before: &[u8], after: &[u8]) -> bool {
-    match (number, call) {
-        (0..=3, _) => true,
-        (7, Call::Start(edition)) => area::is_empty(after, *edition),
-        _ => before == after,
     }
 }

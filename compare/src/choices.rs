@@ -1,5 +1,6 @@
 //! Random calls on a given table, chosen so that they meet its records and edges.
 
+mod generations;
 mod two;
 
 use crate::area::{Area, Key, Record, LIMIT, LONGEST, NAME_SLOTS};
@@ -26,6 +27,10 @@ pub struct Mix {
     pub one_deletion_in: usize,
     pub one_start_in: usize,
     pub one_break_in: usize,
+    /// So often a call is chosen for its expired tack.
+    pub one_expired_in: usize,
+    /// So often a generation is one below the floor, which an expired tack may have raised.
+    pub one_revoked_in: usize,
 }
 
 impl Mix {
@@ -54,6 +59,8 @@ impl Mix {
             one_deletion_in: 12,
             one_start_in: 100,
             one_break_in: 4,
+            one_expired_in: 6,
+            one_revoked_in: 6,
         };
         // The name slots run out first.
         let many_names = Mix {
@@ -62,6 +69,8 @@ impl Mix {
             one_deletion_in: 60,
             one_start_in: 5_000,
             one_break_in: 300,
+            one_expired_in: 40,
+            one_revoked_in: 100,
             ..few
         };
         // The key slots do.
@@ -73,8 +82,8 @@ impl Mix {
             ..many_names
         };
         match random.below(4) {
-            0 => (many_names, 1_000),
-            1 => (many_keys, 1_000),
+            0 => (many_names, 1_200),
+            1 => (many_keys, 1_200),
             _ => (few, 300),
         }
     }
@@ -85,6 +94,8 @@ pub struct Choices<'a> {
     mix: &'a Mix,
     area: &'a Area,
     random: &'a mut Random,
+    /// The tack has expired, and hardly anything else is wrong, so that 23 is the number and a floor may rise.
+    is_expired: bool,
     /// Each thing that can be wrong with a call is wrong once in so many times.
     one_wrong_in: usize,
 }
@@ -92,11 +103,16 @@ pub struct Choices<'a> {
 impl<'a> Choices<'a> {
     /// Most calls have one thing wrong at most; some have many, which shows the refusals' order.
     pub fn new(mix: &'a Mix, area: &'a Area, random: &'a mut Random) -> Choices<'a> {
-        let one_wrong_in = *random.pick(&[3, 6, 40, 40, 400, 400, 400, 400]);
+        let is_expired = random.one_in(mix.one_expired_in);
+        let one_wrong_in = match is_expired {
+            true => 400,
+            false => *random.pick(&[3, 6, 40, 40, 400, 400, 400, 400]),
+        };
         Choices {
             mix,
             area,
             random,
+            is_expired,
             one_wrong_in,
         }
     }
@@ -243,7 +259,7 @@ impl<'a> Choices<'a> {
         };
         let (min_generation, generation) = self.generations(&key);
         let clock = u32::try_from(clock).unwrap_or(u32::MAX);
-        let expiration = match self.is_wrong() {
+        let expiration = match self.is_expired || self.is_wrong() {
             true => *self.random.pick(&[0, clock.saturating_sub(1)]),
             false => *self
                 .random
@@ -267,42 +283,14 @@ impl<'a> Choices<'a> {
         pool::key(self.mix.key_family, number)
     }
 
-    /// min_generation and generation. The floor seldom rises, or it would soon be 255 for good.
-    fn generations(&mut self, key: &Key) -> (u8, u8) {
-        let any = self.random.byte();
-        let recorded = self.area.floor(key);
-        let floor = recorded.unwrap_or(*self.random.pick(&[0, 1, 3, 3, any, 255]));
-        let (below, above) = (floor.saturating_sub(1), floor.saturating_add(1));
-        if self.is_wrong() {
-            return *self
-                .random
-                .pick(&[(above, floor), (255, 0), (any, any / 2)]);
-        }
-        if self.is_wrong() {
-            return *self
-                .random
-                .pick(&[(below, below), (0, below), (0, 0), (below / 2, below)]);
-        }
-        let within = self.random.byte().min(floor);
-        let passing = [
-            (floor, floor),
-            (within, floor),
-            (floor, above),
-            (floor, 255),
-            (0, 255),
-        ];
-        match self.random.below(30) {
-            0 => (above, above),
-            // Such a call is hardly ever one that may raise the floor.
-            1..=10 if self.one_wrong_in < 10 => (above, above),
-            1 if self.random.one_in(8) => (255, 255),
-            _ => *self.random.pick(&passing),
-        }
-    }
-
     /// Recorded keys, unrecorded ones, the tack's own, one twice.
     fn breaks(&mut self, tack: Option<&Tack>) -> Vec<Key> {
-        if !self.random.one_in(self.mix.one_break_in) {
+        let one_break_in = match self.is_expired {
+            // They do not act, so that a full table stays full.
+            true => 2,
+            false => self.mix.one_break_in,
+        };
+        if !self.random.one_in(one_break_in) {
             return vec![];
         }
         let count = *self.random.pick(&[1, 1, 1, 2, 3, 7, 8]);

@@ -7,6 +7,7 @@
 //! * [`make`]: the maker of nights, also for the program `make_night` and for timing.
 //! * [`spelling`]: names in letters of either case, which every part above mixes.
 //! * [`wire`], [`record`], [`area`]: the bytes of extensions, recorded calls and tables, without the help of either program.
+//! * [`both`], [`kept`]: one call by both programs, and what its number says of the table afterwards.
 //! * [`tally`], [`kind_counts`]: how often each number and each kind came.
 //! * [`watchdog`]: an end for a comparison in which a call hangs.
 
@@ -19,6 +20,7 @@ pub mod damage;
 pub mod edition_two;
 pub mod extensions;
 pub mod extensions_two;
+pub mod kept;
 pub mod kind_counts;
 pub mod length;
 pub mod lists;

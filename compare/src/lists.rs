@@ -2,6 +2,7 @@
 
 pub(crate) mod ages;
 pub(crate) mod aside;
+pub(crate) mod expired;
 pub(crate) mod spellings;
 
 use crate::area::{Area, KEY_SLOTS, NAME_SLOTS};
@@ -11,6 +12,7 @@ use crate::choices::{Choices, Mix};
 use crate::random::Random;
 use crate::tally::Tally;
 use ages::Ages;
+use expired::Expired;
 use spellings::Spellings;
 use tack::extension::Extension;
 
@@ -21,6 +23,7 @@ pub struct Lists {
     spellings: Spellings,
     room: Room,
     ages: Ages,
+    expired: Expired,
 }
 
 /// How often a pin found a full table.
@@ -99,9 +102,13 @@ impl Lists {
                 self.room.add(&before, connection, &answer, &area);
                 self.ages.add(&before, connection, &answer)?;
             }
+            self.expired
+                .add(&before, &call, &answer, &area)
+                .map_err(|problem| format!("both agree, but {problem}: {call:02x?}"))?;
             calls += 1;
         }
         self.spellings.end_list();
+        self.expired.end_list();
         Ok(calls)
     }
 
@@ -112,13 +119,14 @@ impl Lists {
         Ok(answer)
     }
 
-    /// The verdict: every number, every spelling, every kind of room and every age of a pin came.
+    /// The verdict: every number, every spelling, every kind of room, every age of a pin and every kind of expired tack came.
     pub fn finish(&self) -> Result<(), String> {
         let numbers: Vec<u8> = (0..=7).chain(10..=23).collect();
         self.numbers.report("calls of lists", &numbers)?;
         let named: Vec<u8> = (0..=6).chain(10..=23).collect();
         self.spellings.report("calls of lists", &named)?;
         self.room.report()?;
-        self.ages.report("pins")
+        self.ages.report("pins")?;
+        self.expired.report()
     }
 }

@@ -16,6 +16,29 @@ use kinds::{Feed, Kind, KINDS};
 use program::{Program, Replayed};
 use writers::Writers;
 
+/// A night whose report and tally the papers give.
+struct Example {
+    name: &'static str,
+    night: fn(usize, &mut Random) -> Vec<u8>,
+    report: &'static str,
+    tally: &'static str,
+}
+
+const EXAMPLES: [Example; 2] = [
+    Example {
+        name: "E4 and E5",
+        night: whole::e4_and_e5,
+        report: "0 0 0 0\n1 1 0 0\ntotal 2\n",
+        tally: "0 1\n1 1\n",
+    },
+    Example {
+        name: "an expired tack that revokes",
+        night: whole::expired_tack_revokes,
+        report: "0 0 0 0\n1 23 45 0\n2 22 44 0\n3 0 0 0\n4 1 0 0\n5 23 45 0\n6 22 44 0\n7 1 0 0\ntotal 8\n",
+        tally: "0 2\n1 2\n22 2\n23 2\n",
+    },
+];
+
 /// The proved program, and what its nights have met so far.
 pub struct Nights {
     program: Program,
@@ -37,11 +60,13 @@ impl Nights {
         })
     }
 
-    /// The papers' example, every case of every kind of night, and the writers of calls.
+    /// The papers' examples, every case of every kind of night, and the writers of calls.
     pub fn edges(&mut self) -> Result<u64, String> {
         self.watchdog
-            .begin("the example night and the writers of calls");
-        self.example()?;
+            .begin("the example nights and the writers of calls");
+        for example in EXAMPLES {
+            self.example(&example)?;
+        }
         self.writers.edges(&mut self.random)?;
         let mut nights = 0;
         for (kind, Kind { cases, .. }) in KINDS.iter().enumerate() {
@@ -62,15 +87,14 @@ impl Nights {
         Ok(1)
     }
 
-    /// E4 and E5 give exactly this.
-    fn example(&mut self) -> Result<(), String> {
-        let night = whole::e4_and_e5(0, &mut self.random);
+    fn example(&mut self, example: &Example) -> Result<(), String> {
+        let night = (example.night)(0, &mut self.random);
         let expected = Replayed {
-            report: b"0 0 0 0\n1 1 0 0\ntotal 2\n".to_vec(),
-            tally: b"0 1\n1 1\n".to_vec(),
+            report: example.report.into(),
+            tally: example.tally.into(),
         };
         self.is_reported(&night, &expected)
-            .map_err(|problem| different("E4 and E5", &night, &problem))
+            .map_err(|problem| different(example.name, &night, &problem))
     }
 
     /// Whether both programs give the report and the tally.

@@ -193,5 +193,7 @@ fn mix(random: &mut Random) -> Mix {
         one_deletion_in: 3,
         one_start_in: 100,
         one_break_in: 4,
+        one_expired_in: 8,
+        one_revoked_in: 8,
     }
 }

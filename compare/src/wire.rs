@@ -1,11 +1,15 @@
-//! The bytes of extensions, written here without the help of either program.
+//! The bytes of extensions, written and read here without the help of either program.
 
 use crate::area::Key;
 
 /// The SHA-256 of the server's key in every call.
 pub const HASH: [u8; 32] = [0x77; 32];
 
-#[derive(Clone, Copy)]
+/// The bytes of a tack, and of a break signature.
+const TACK: usize = 166;
+const BREAK: usize = 128;
+
+#[derive(Debug, Clone, Copy, PartialEq, Eq)]
 pub struct Tack {
     pub key: Key,
     pub min_generation: u8,
@@ -19,6 +23,16 @@ impl Tack {
         let expiration = self.expiration.to_be_bytes();
         let parts: [&[u8]; 5] = [&self.key, &generations, &expiration, &HASH, &[0x55; 64]];
         parts.concat()
+    }
+
+    fn read(bytes: &[u8; TACK]) -> Tack {
+        let (key, rest) = bytes.split_first_chunk().expect("a tack begins with a key");
+        Tack {
+            key: *key,
+            min_generation: rest[0],
+            generation: rest[1],
+            expiration: u32::from_be_bytes([rest[2], rest[3], rest[4], rest[5]]),
+        }
     }
 }
 
@@ -37,6 +51,24 @@ pub fn extension(tack: Option<&Tack>, breaks: &[Key], activation: u8) -> Vec<u8>
     bytes
 }
 
+/// The tack of a well-formed extension of edition one, if it holds one.
+pub fn tack(extension: &[u8]) -> Option<Tack> {
+    let (&length, rest) = extension.split_first()?;
+    let tack = (usize::from(length) == TACK).then_some(rest)?;
+    Some(Tack::read(tack.first_chunk()?))
+}
+
+/// The keys of a well-formed extension's break signatures.
+pub fn broken_keys(extension: &[u8]) -> Vec<Key> {
+    let tack = extension.first().map_or(0, |&length| usize::from(length));
+    // The tack stands between two lengths, and the activation behind all.
+    let breaks = extension.get(tack + 3..).unwrap_or_default();
+    let breaks = breaks.chunks_exact(BREAK);
+    breaks
+        .filter_map(|bytes| bytes.first_chunk().copied())
+        .collect()
+}
+
 /// An extension of edition two.
 pub fn extension_two(tacks: &[Tack], flags: u8) -> Vec<u8> {
     let tacks: Vec<u8> = tacks.iter().flat_map(Tack::bytes).collect();
@@ -51,5 +83,24 @@ pub fn tacks_and_flags(tacks: &[u8], flags: u8) -> Vec<u8> {
 
 /// Where the target hash of the first tack stands in an extension of edition two, or of the second.
 pub fn target_hash_in_two(tack: usize) -> usize {
-    2 + 166 * tack + 70
+    2 + TACK * tack + 70
+}
+
+#[test]
+fn what_is_written_is_read() {
+    let shown = Tack {
+        key: std::array::from_fn(|place| place as u8),
+        min_generation: 3,
+        generation: 4,
+        expiration: 0x01020304,
+    };
+    for broken in [vec![], vec![[7; 64]], vec![[7; 64], [8; 64]]] {
+        let both = extension(Some(&shown), &broken, 1);
+        assert_eq!(
+            (tack(&both), broken_keys(&both)),
+            (Some(shown), broken.clone())
+        );
+        let alone = extension(None, &broken, 1);
+        assert_eq!((tack(&alone), broken_keys(&alone)), (None, broken));
+    }
 }

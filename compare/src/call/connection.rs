@@ -1,6 +1,6 @@
 //! A connection of edition one, as each program takes it.
 
-use crate::wire::HASH;
+use crate::wire::{self, Tack, HASH};
 use tack::raw;
 use tack::table::Checks;
 
@@ -41,6 +41,11 @@ impl Connection {
             extension,
             ..self
         }
+    }
+
+    /// The tack of a well-formed extension, if one came.
+    pub fn tack(&self) -> Option<Tack> {
+        wire::tack(self.extension_came.then_some(&self.extension)?)
     }
 
     pub fn for_proved(&self) -> raw::Connection<'_> {

@@ -82,7 +82,9 @@ impl Choices<'_> {
     fn tack_two(&mut self, key: Key, clock: u64) -> Tack {
         let (min_generation, generation) = self.generations(&key);
         let clock = u32::try_from(clock).unwrap_or(u32::MAX);
-        let expiration = match self.is_wrong() {
+        // Of two tacks either is the one that has expired.
+        let is_expired = self.is_wrong() || (self.is_expired && self.random.one_in(2));
+        let expiration = match is_expired {
             true => *self
                 .random
                 .pick(&[0, clock.saturating_sub(1), clock, clock]),

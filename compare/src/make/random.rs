@@ -83,3 +83,26 @@ impl Night {
         }
     }
 }
+
+#[cfg(test)]
+mod tests {
+    use super::*;
+    use crate::call::{By, Call};
+    use crate::lists::expired::Expired;
+
+    /// By the second program alone: 23 raises floors, and some numbers 22 come for no other reason.
+    #[test]
+    fn expired_tacks_revoke() {
+        let mut expired = Expired::default();
+        for seed in 0..20 {
+            let mut area = Area::empty();
+            for connection in random(1_000, seed) {
+                let (before, call) = (area.clone(), Call::Judge(connection));
+                let answer = call.by(By::Second, &mut area.bytes);
+                assert_eq!(expired.add(&before, &call, &answer, &area), Ok(()));
+            }
+            expired.end_list();
+        }
+        assert_eq!(expired.report(), Ok(()));
+    }
+}

@@ -32,17 +32,29 @@ counted_kinds! {
     OfSecond, "of the second tack";
 }
 
+counted_kinds! {
+    /// Tacks with a min_generation above the floor of their key, which a verdict would have raised.
+    NotRaised, "floors not raised by a 23 of edition two";
+    FirstExpired, "by the first tack, which has expired";
+    SecondExpired, "by the second tack, which has expired";
+    Unexpired, "by the tack beside an expired one";
+}
+
 /// What the calls have met so far.
 #[derive(Default)]
 pub struct Faults {
     refused: KindCounts<Fault>,
     unexpired: KindCounts<Unexpired>,
+    not_raised: KindCounts<NotRaised>,
 }
 
 impl Faults {
     pub fn add(&mut self, judged: &Judged) {
         if let Some(fault) = fault(judged) {
             self.refused.add(fault);
+        }
+        if judged.answer.number == 23 {
+            self.add_not_raised(judged);
         }
         let places = [Unexpired::OfFirst, Unexpired::OfSecond];
         for (tack, place) in judged.tacks.iter().zip(places) {
@@ -53,10 +65,25 @@ impl Faults {
         }
     }
 
-    /// The verdict: every refusal came for either tack, and each expired just before its clock.
+    fn add_not_raised(&mut self, judged: &Judged) {
+        for (index, tack) in judged.tacks.iter().enumerate() {
+            let floor = judged.before.floor(&tack.key);
+            if floor.is_some_and(|floor| floor < tack.min_generation) {
+                self.not_raised
+                    .add(match (has(judged, tack, index, 23), index) {
+                        (false, _) => NotRaised::Unexpired,
+                        (true, 0) => NotRaised::FirstExpired,
+                        (true, _) => NotRaised::SecondExpired,
+                    });
+            }
+        }
+    }
+
+    /// The verdict: every refusal came for either tack, each expired just before its clock, and 23 raised no floor.
     pub fn report(&self) -> Result<(), String> {
         self.refused.report()?;
-        self.unexpired.report()
+        self.unexpired.report()?;
+        self.not_raised.report()
     }
 }
 

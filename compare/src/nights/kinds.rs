@@ -60,6 +60,7 @@ macro_rules! kinds {
 #[rustfmt::skip]
 pub const KINDS: &[Kind] = kinds! {
     "E4 and E5", 4, Either, Total, whole::e4_and_e5;
+    "an expired tack that revokes", 4, Either, Total, whole::expired_tack_revokes;
     "no call at all", 3, Either, Total, whole::empty;
     "the bundled night", 2, Either, Total, whole::bundled;
     "random calls", 40, Either, Total, whole::random;

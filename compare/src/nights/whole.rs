@@ -1,10 +1,12 @@
 //! Nights of whole calls.
 
+use crate::area::Key;
 use crate::call::Connection;
 use crate::make::{self, stories, Pins};
 use crate::random::Random;
 use crate::record::{LONGEST_CALL, LONGEST_EXTENSION, LONGEST_NAME};
 use crate::spelling;
+use crate::wire::{self, Tack};
 
 /// Makers give recordable calls only.
 fn bytes(night: impl IntoIterator<Item = Connection>) -> Vec<u8> {
@@ -15,6 +17,32 @@ fn bytes(night: impl IntoIterator<Item = Connection>) -> Vec<u8> {
 pub fn e4_and_e5(_case: usize, _random: &mut Random) -> Vec<u8> {
     let at = |clock| Connection::at(clock, b"a.b").with(make::showing([0x11; 64]));
     bytes([at(1_000), at(1_600)])
+}
+
+/// A key with floor 3 is shown by an expired tack with min_generation 5, which revokes generation 4; the clock may still be
+/// that of the first call. The key record stays, floor and all, although the next expired tack comes with a lower
+/// min_generation and a break signature of its key.
+pub fn expired_tack_revokes(_case: usize, _random: &mut Random) -> Vec<u8> {
+    let key = [0x11; 64];
+    let call = |clock, min_generation, generation, expiration, breaks: &[Key]| {
+        let tack = Tack {
+            key,
+            min_generation,
+            generation,
+            expiration,
+        };
+        Connection::at(clock, b"a.b").with(wire::extension(Some(&tack), breaks, 1))
+    };
+    bytes([
+        call(1_000, 3, 3, u32::MAX, &[]),
+        call(1_001, 5, 5, 1_000, &[]),
+        call(1_001, 3, 4, u32::MAX, &[]),
+        call(1_000, 3, 5, u32::MAX, &[]),
+        call(1_600, 3, 5, u32::MAX, &[]),
+        call(1_601, 3, 5, 1_600, &[key]),
+        call(1_601, 3, 4, u32::MAX, &[]),
+        call(1_601, 3, 5, u32::MAX, &[]),
+    ])
 }
 
 pub fn empty(_case: usize, _random: &mut Random) -> Vec<u8> {
