@@ -149,7 +149,7 @@ fn a_mixed_list_gives_the_bytes_of_the_small_one() {
     let mut random = Random(21);
     let (mut small_area, mut mixed_area) = (empty_area(), empty_area());
     let mut deleted = 0;
-    for call in any_night(20, 2000) {
+    for call in any_night(20, 2400) {
         let mixed = respelled(&mut random, &call);
         let (small_name, mixed_name) = (&call.name, &mixed.name);
         if random.below(10) == 0 {
@@ -168,7 +168,7 @@ fn a_mixed_list_gives_the_bytes_of_the_small_one() {
         );
     }
     assert!(deleted > 0);
-    assert!(parse(&mixed_area).unwrap().name_records().count() > 80);
+    assert!(parse(&mixed_area).unwrap().name_records().count() > 100);
 }
 
 #[track_caller]
