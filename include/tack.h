@@ -89,8 +89,9 @@ bool tack_name_well_formed(const uint8_t *name, size_t length);
 
 /* The pin table is an area of 39,432 bytes that the caller keeps, in memory or in a file, and lends to each call. Byte 4 is its
  * edition, 0 for one and 1 for two; bytes 5 to 7 are zero. All zero is the empty table of edition one. In edition two a name
- * may have two records, with different keys. An area of another length is 10, a damaged table 11. The table keeps names in small letters only; one that holds a capital is damaged. Clocks are whole minutes since
- * 1970, 4,294,924,095 at most; above that it is 13. */
+ * may have two records, with different keys. An area of another length is 10, a damaged table 11. The table keeps names in small
+ * letters only; one that holds a capital is damaged. Clocks are whole minutes since 1970, 4,294,924,095 at most; above that it is
+ * 13. */
 #define TACK_TABLE_LENGTH 39432
 
 /* The refusals, the alert in brackets where there is one. 18 to 23 need a tack.
@@ -109,8 +110,8 @@ bool tack_name_well_formed(const uint8_t *name, size_t length);
  * expiration = clock, and 16, 18 to 21 and 24 carry alert 42, the others as above.
  *
  * An expired tack still revokes: where tack_judge answers 23 and the tack's key has a record whose floor is below the tack's
- * min_generation, the floor becomes that value. No other byte changes, latest and what the break signatures name included. So a
- * table that is kept in a file is written after a 23 too. In edition two 23 changes nothing, and no other refusal does in either.
+ * min_generation, the floor becomes that value, so a table that is kept in a file is written after a 23 too. No other byte changes,
+ * neither latest nor the records that the break signatures name. Every other refusal, and 23 of tack2_judge, changes nothing.
  */
 
 /* Judges one finished connection of edition one and brings the table up to date. spki_sha256 is the SHA-256 of the server's

@@ -13,7 +13,7 @@
 //!
 //! Every function answers for every input. An error carries the [`number`](table::Refused::number) that the gateway's papers
 //! give it, and where a TLS alert may go with it the [`alert`](table::Refused::alert) that the library answered; it leaves all
-//! lent memory as it was.
+//! lent memory as it was, but that [`Refusal::Expired`](table::Refusal::Expired) of edition one may raise one floor.
 //!
 //! # One connection
 //!

@@ -7,11 +7,7 @@ use native.Mathlib.Omega.{arith}
 use lib.ListN.{length, take, drop, getD, length-append, take-append-drop}
 use lib.Seq.{drop-cons}
 use native.Mathlib.Numerals.{add-one}
-use Rattle.octets.specs.Octets.{part, bigEndian, number, numberAfter}
-
--- every element is a byte
-abbrev pub Bytes : List ℕ → Type 0
-Bytes s = (i : ℕ) → getD s i 0 < 256
+use Rattle.octets.specs.Octets.{Bytes, part, bigEndian, number, numberAfter}
 
 -- what stands in front of bytes, what stands behind, and a part
 pub bytes-front : (p r : List ℕ) → Bytes (p ++ r) → Bytes p

@@ -158,6 +158,11 @@ put-nested b at n i vs h l =
     (below-or o n)))
     (below-or j at))
 
+-- of a part that is known
+pub put-in-part : (b s : List ℕ) (at n i : ℕ) (vs : List ℕ) → part b at n ≡ s → at + n ≤ length b → i + length vs ≤ n
+    → put b (at + i) vs ≡ put b at (put s i vs)
+put-in-part b s at n i vs e h l = sym (put-nested b at n i vs h l) ∙ ap (λ (r : List ℕ). put b at (put r i vs)) e
+
 -- what is put in last stays
 put-put : (b : List ℕ) (at : ℕ) (s r : List ℕ) → at + length s ≤ length b → length s ≡ length r → put (put b at s) at r ≡ put b at r
 unfolding put

@@ -10,11 +10,11 @@ use lib.Dec.{eqb}
 use lib.ListN.{length, take, drop, getD}
 use lib.Seq.{drop-cons}
 use borrow.Author.Tests.{eqb-true, eq-eqb}
-use Rattle.octets.specs.Octets.{part, same}
+use Rattle.octets.specs.Octets.{Bytes, part, same}
 use Rattle.octets.specs.Words.{word}
 use Rattle.octets.proofs.Tests.{below-or, both-ways, is-false}
 use Rattle.octets.proofs.Parts.{part-length, part-at, part-part}
-use Rattle.octets.proofs.Numbers.{Bytes, bytes-part}
+use Rattle.octets.proofs.Numbers.{bytes-part}
 use Rattle.octets.proofs.Equal.{same-true, same-part}
 
 -- the word of a part, byte by byte

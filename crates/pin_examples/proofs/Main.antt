@@ -6,7 +6,7 @@ use Rattle.tack_extension.specs.Extension.{tackStep, breaksStep, activationStep
 use Rattle.pin_model.specs.Layout.{joined, encodeKey, encodeName, encode}
 use Rattle.pin_model.specs.Run.{areaOf}
 use Rattle.pin_journal.proofs.Main.{area-run, answer-run}
-use Rattle.pin_examples.specs.Examples.{ReadingRight, Row, Right, after, Every, nothing, _also_, e4, e4Area, e5, e5Inspected, e6, e7, e8, e8Inspected, e9, e10, e11, e12At1000, e12At1001, spelledMade, spelledConfirmed, spelledContradicted, spelledInspected, spelledAZ, spelledBeforeA, spelledBehindZ, expiredRaises, expiredArea, expiredRevokes, expiredAllows, expiredBreak, expiredBreakInspected, expiredLower, expiredUnknown, readingExamples, spelledExamples, expiredExamples, Examples}
+use Rattle.pin_examples.specs.Examples.{ReadingRight, Row, Right, after, Every, nothing, _also_, e4, e4Area, e5, e5Inspected, e6, e7, e8, e8Inspected, e9, e10, e11, e12At1000, e12At1001, spelledMade, spelledConfirmed, spelledContradicted, spelledInspected, spelledAZ, spelledBeforeA, spelledBehindZ, expiredRaises, expiredArea, expiredRevokes, expiredAllows, expiredBreak, expiredBreakInspected, expiredLower, expiredLowerInspected, expiredUnrecorded, readingExamples, spelledExamples, expiredExamples, Examples}
 use Rattle.pin_examples.proofs.Model.{modelAnswer}
 
 right : (r : Row) → modelAnswer false (r .history) (r .call) ≡ r .gives → Right r
@@ -79,7 +79,8 @@ expired-right : Every Right expiredExamples
 unfolding modelAnswer
 expired-right =
     right expiredRaises refl also right expiredRevokes refl also right expiredAllows refl also right expiredBreak refl
-    also right expiredBreakInspected refl also right expiredLower refl also right expiredUnknown refl also nothing
+    also right expiredBreakInspected refl also right expiredLower refl also right expiredLowerInspected refl
+    also right expiredUnrecorded refl also nothing
 
 expired-bytes : areaOf false (after expiredRaises) ≡ expiredArea
 unfolding modelAnswer encode joined encodeKey encodeName e4Area

@@ -8,7 +8,7 @@ use Rattle.pin_model.specs.Run.{areaOf}
 use Rattle.pin_journal.proofs.TableRun.{tableAnswer, tableNext}
 use Rattle.pin_journal.proofs.Main.{area-run, answer-run}
 use Rattle.pin_examples.specs.Examples.{Every, nothing, _also_}
-use Rattle.pin_examples.specs.ExamplesTwo.{RowTwo, RightTwo, ExamplesTwo, afterTwo, moves, verdicts, refusals, editions, managed, moveMade, movePinned, moveBoth, moveBothPinned, moveBothPinnedArea, moveAloneA, moveAloneB, moveEnabledB, moveTooEarly, moveDone, moveBack, moveBackLater, moveNext, contradictedRaises, contradictedMakesNone, bothRaise, disabledMakesNone, disabledGoes, absentGoes, disabledMatches, disabledAtEnd, bitWithoutTack, furtherBit, oneKey, oneKeyFirst, expiredAt1000, expiredRaisesNone, expiresAfter999, generationFirst, expiredFirst, hashFirst, firstTackFirst, firstRevoked, secondRevoked, revokedLast, startedOne, startedTwo, oneOnTwo, oneOnTwoFirst, e4OnOne, twoOnOne, deletesBoth, inspectsFirst, inspectsSecond, inspectsYounger, inspectsOlder, inspectsMissing, others, otherKeys, otherPins, tableTwo, roomForOne, roomAfterRemoval, roomForFirst}
+use Rattle.pin_examples.specs.ExamplesTwo.{RowTwo, RightTwo, ExamplesTwo, afterTwo, moves, verdicts, refusals, editions, managed, moveMade, movePinned, moveBoth, moveBothPinned, moveBothPinnedArea, moveAloneA, moveAloneB, moveEnabledB, moveTooEarly, moveDone, moveBack, moveBackLater, moveNext, contradictedRaises, contradictedMakesNone, bothRaise, disabledMakesNone, disabledGoes, absentGoes, disabledMatches, disabledAtEnd, bitWithoutTack, furtherBit, oneKey, oneKeyFirst, expiredAt1000, expiresAfter999, expiredRaisesNone, generationFirst, expiredFirst, hashFirst, firstTackFirst, firstRevoked, secondRevoked, revokedLast, startedOne, startedTwo, oneOnTwo, oneOnTwoFirst, e4OnOne, twoOnOne, deletesBoth, inspectsFirst, inspectsSecond, inspectsYounger, inspectsOlder, inspectsMissing, others, otherKeys, otherPins, tableTwo, roomForOne, roomAfterRemoval, roomForFirst}
 use Rattle.pin_examples.proofs.Model.{modelAnswer, modelTable}
 
 -- a row, by what the model computes from the empty table
@@ -48,7 +48,7 @@ refusals-right : Every RightTwo refusals
 unfolding modelAnswer
 refusals-right =
     right bitWithoutTack refl refl also right furtherBit refl refl also right oneKey refl refl also right oneKeyFirst refl refl
-    also right expiredAt1000 refl refl also right expiredRaisesNone refl refl also right expiresAfter999 refl refl also right generationFirst refl refl
+    also right expiredAt1000 refl refl also right expiresAfter999 refl refl also right expiredRaisesNone refl refl also right generationFirst refl refl
     also right expiredFirst refl refl also right hashFirst refl refl also right firstTackFirst refl refl
     also right firstRevoked refl refl also right secondRevoked refl refl also right revokedLast refl refl also nothing
 

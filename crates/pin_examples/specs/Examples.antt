@@ -208,7 +208,7 @@ expiredRaises = row (after e4) (withTack 1001 (tack 5 5 1000)) (alerted 23 45)
 abbrev pub expiredArea : List ℕ
 expiredArea = set e4Area 9 0x05
 
--- then a tack of generation 4 is 22, at 1000 too, where 14 would come if latest were 1001; one of generation 5 passes
+-- then a tack of generation 4 is 22, at 1000, where 14 would come if latest were 1001; one of generation 5 passes
 abbrev pub expiredRevokes : Row
 expiredRevokes = row (after expiredRaises) (withTack 1000 (tack 4 4 later)) (alerted 22 44)
 
@@ -218,19 +218,21 @@ expiredAllows = row (after expiredRaises) (withTack 1600 (tack 4 5 later)) (plai
 -- with a break signature of K in the same extension: K's record stands, and its floor is raised
 abbrev pub expiredBreak : Row
 expiredBreak =
-    row (after e4)
-    (judge (connection 1001 host true (bytesOf (parts (tack 5 5 1000) (replicate 64 0x11 ++ replicate 64 0x33) 1)) hash (checksBy true true true 1)))
-    (alerted 23 45)
+    let bytes = bytesOf (parts (tack 5 5 1000) (replicate 64 0x11 ++ replicate 64 0x33) 1) in
+    row (after e4) (judge (connection 1001 host true bytes hash (checksBy true true true 1))) (alerted 23 45)
 
 abbrev pub expiredBreakInspected : Row
 expiredBreakInspected = row (after expiredBreak) (inspect false host 1001) (answerOf false 5 false 5 1000 0 (pos 0))
 
 -- an expired tack of a lower min_generation leaves the floor, and one of a key without a record makes none
 abbrev pub expiredLower : Row
-expiredLower = row (withTack 1001 (tack 2 3 1000) ∷ after e4) (inspect false host 1001) (answerOf false 5 false 3 1000 0 (pos 0))
+expiredLower = row (after e4) (withTack 1001 (tack 2 3 1000)) (alerted 23 45)
 
-abbrev pub expiredUnknown : Row
-expiredUnknown = row (after e12At1001) (inspect false host 1001) (plain 4)
+abbrev pub expiredLowerInspected : Row
+expiredLowerInspected = row (after expiredLower) (inspect false host 1001) (answerOf false 5 false 3 1000 0 (pos 0))
+
+abbrev pub expiredUnrecorded : Row
+expiredUnrecorded = row (after e12At1001) (inspect false host 1001) (plain 4)
 
 abbrev pub readingExamples : List ReadingRow
 readingExamples = e1 ∷ e2 ∷ e3 ∷ []
@@ -245,7 +247,8 @@ spelledExamples =
 
 abbrev pub expiredExamples : List Row
 expiredExamples =
-    expiredRaises ∷ expiredRevokes ∷ expiredAllows ∷ expiredBreak ∷ expiredBreakInspected ∷ expiredLower ∷ expiredUnknown ∷ []
+    expiredRaises ∷ expiredRevokes ∷ expiredAllows ∷ expiredBreak ∷ expiredBreakInspected
+    ∷ expiredLower ∷ expiredLowerInspected ∷ expiredUnrecorded ∷ []
 
 -- 'E1-E12 are proved together as one table under one statement'
 pub record Examples : Type 0 where

@@ -1,4 +1,4 @@
--- Examples for edition two (document 02, Q-3): each a call after other calls, from the empty table of edition two, with its whole
+-- Examples for edition two (document 02, Q-3 and Q-4): each a call after other calls, from the empty table of edition two, with its whole
 -- answer and the table that it leaves; one table under one statement, `ExamplesTwo`.
 use mathlib.Core.Path.{_≡_}
 use mathlib.Core.Bool.{Bool, true, false}
@@ -269,16 +269,14 @@ oneKeyFirst =
 abbrev pub expiredAt1000 : RowTwo
 expiredAt1000 = rowTwo [] (oneTack 1000 (tackUnder keyA 3 3 1000) theFirst) (alerted 23 45) (empty true)
 
--- 'there 23 raises no floor' (document 02, Q-4): from A's record, A's tack with min_generation 5, expired
-abbrev pub expiredRaisesNone : RowTwo
-expiredRaisesNone =
-    rowTwo (afterTwo moveMade) (oneTack 1600 (tackUnder keyA 5 5 1600) theFirst) (alerted 23 45)
-    (tableTwo 1000 (keyWith keyA 3 ∷ []) (pinWith keyA 1000 none ∷ []))
-
 abbrev pub expiresAfter999 : RowTwo
 expiresAfter999 =
     rowTwo [] (oneTack 999 (tackUnder keyA 3 3 1000) theFirst) (inEditionTwo 0)
     (tableTwo 999 (keyWith keyA 3 ∷ []) (pinWith keyA 999 none ∷ []))
+
+-- 'there 23 raises no floor' (document 02, Q-4): from A's record, A's tack with min_generation 5, expired
+abbrev pub expiredRaisesNone : RowTwo
+expiredRaisesNone = rowTwo (afterTwo moveMade) (oneTack 1600 (tackUnder keyA 5 5 1600) theFirst) (alerted 23 45) (moveMade .leaves)
 
 -- '18, 19, 23 .., 20, 21': 19 before 23, 23 before 20, 20 before 21
 abbrev pub generationFirst : RowTwo
@@ -428,7 +426,7 @@ verdicts =
 
 abbrev pub refusals : List RowTwo
 refusals =
-    bitWithoutTack ∷ furtherBit ∷ oneKey ∷ oneKeyFirst ∷ expiredAt1000 ∷ expiredRaisesNone ∷ expiresAfter999 ∷ generationFirst
+    bitWithoutTack ∷ furtherBit ∷ oneKey ∷ oneKeyFirst ∷ expiredAt1000 ∷ expiresAfter999 ∷ expiredRaisesNone ∷ generationFirst
     ∷ expiredFirst ∷ hashFirst ∷ firstTackFirst ∷ firstRevoked ∷ secondRevoked ∷ revokedLast ∷ []
 
 abbrev pub editions : List RowTwo

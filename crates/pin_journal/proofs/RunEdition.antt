@@ -6,7 +6,7 @@ use mathlib.Core.Option.{Option, none, some}
 use Prim.Native.Nat.{ℕ}
 use Rattle.pin_model.specs.Table.{Table}
 use Rattle.pin_model.specs.Layout.{ofTwo}
-use Rattle.pin_model.specs.Calls.{Call, judge, judgeTwo, delete, inspect, start, folded, tableAfter}
+use Rattle.pin_model.specs.Calls.{Call, judge, judgeTwo, delete, inspect, start, folded}
 use Rattle.pin_model.specs.Run.{areaOf}
 use Rattle.pin_model.proofs.Editions.{editionAfter, after-edition}
 use Rattle.pin_model.proofs.RefusedTable.{refused-keeps}

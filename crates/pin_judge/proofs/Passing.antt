@@ -1,15 +1,15 @@
 -- The area's refusals and its edition's; where an extension came, the later ones, what is known where none applies, and the answer then.
 use mathlib.Core.Path.{_≡_, refl, sym, ap, ap₂, _∙_}
 use mathlib.Core.Bool.{Bool, true, false, cond, not}
-use mathlib.Core.List.{List, [], _∷_, _++_, map}
+use mathlib.Core.List.{List, [], _++_, map}
 use mathlib.Core.Option.{none, some}
 use Prim.Native.Nat.{ℕ, _≤_}
 use native.Mathlib.Omega.{arith}
 use lib.Dec.{eqb, ltb}
 use lib.ListN.{length, getD}
 use borrow.Author.Tests.{ltb-true, ltb-false, le-ltb, not-true}
-use Rattle.octets.proofs.Numbers.{Bytes}
-use Rattle.octets.proofs.Options.{byOption, never-some, some-injective}
+use Rattle.octets.specs.Octets.{Bytes}
+use Rattle.octets.proofs.Options.{byOption}
 use Rattle.host_name.specs.Name.{wellFormed}
 use Rattle.tack_extension.specs.Extension.{parse, tackPart, breaksPart}
 use Rattle.tack_extension.specs.Tack.{breakKey, breakSignatures}
@@ -20,10 +20,10 @@ use Rattle.pin_model.specs.Layout.{encode, decode}
 use Rattle.pin_model.specs.Sound.{sound}
 use Rattle.pin_model.specs.Connection.{Connection, connection, partsOf, unlessEmpty, tackShown, enabled, isEnabled, breaksShown, brokenKeys}
 use Rattle.pin_model.specs.Refusals.{first, areaTests, nameTest, limitTest, handshakeTests, isNone, formTest, breaksTest, tackTests}
-use Rattle.pin_model.specs.Judge.{raiseShown, judged, noRoom, steps, verdict}
-use Rattle.pin_model.specs.Calls.{Answer, plain, judge, folded, tableTestsOf, refusal, answer, areaAfter, answered, areaLeft}
+use Rattle.pin_model.specs.Judge.{judged, noRoom, steps, verdict}
+use Rattle.pin_model.specs.Calls.{Answer, plain, judge, folded, tableTestsOf, refusal, answer, refusedWith, areaAfter, answered, areaLeft}
 use Rattle.pin_model.specs.declared.Checks.{Checks}
-use Rattle.pin_model.proofs.TackShown.{tack-length}
+use Rattle.pin_model.proofs.TackShown.{is-shown, tack-length}
 use Rattle.pin_model.proofs.First.{passed, first-here, first-later, first-number}
 use Rattle.pin_answers.specs.Numbers.{checkedNumber}
 use Rattle.pin_answers.specs.declared.Checked.{Checked}
@@ -52,10 +52,6 @@ pub by-reading : {X : Type 0} (f : Bool → List ℕ → List ℕ → X) (s : Li
     → tack ≡ tackPart s → breaks ≡ breaksPart s → f (eqb a 1) tack breaks ≡ f (isEnabled (parse s)) (tackPart s) (breaksPart s)
 by-reading f s a {tack} {breaks} e et eb =
     ap (λ (on : Bool). f on tack breaks) (sym (well-shown s a e .on)) ∙ ap₂ (f (isEnabled (parse s))) et eb
-
-is-shown : (t tack : List ℕ) → unlessEmpty t ≡ some tack → t ≡ tack
-is-shown [] tack e = never-some e
-is-shown (x ∷ xs) tack e = some-injective e
 
 module _ (clock : ℕ) (name bytes hash : List ℕ) (checks : Checks) (b : List ℕ) where
   abbrev it : Connection
@@ -92,7 +88,7 @@ module _ (clock : ℕ) (name bytes hash : List ℕ) (checks : Checks) (b : List 
 
     -- a refusal behind 13, by what is answered and left
     pub refused-so : (n : ℕ) → first shown ≡ some n → (x : Answer) (after : List ℕ)
-        → (x ≡ plain n) × (after ≡ cond (eqb n 23) (encode (raiseShown (unlessEmpty (tackPart bytes)) (decode b))) b)
+        → (x ≡ plain n) × (after ≡ refusedWith n (unlessEmpty (tackPart bytes)) b)
         → (x ≡ answer (judge it) b) × (after ≡ areaAfter (judge it) b)
     unfolding partsOf tackPart tackShown
     refused-so n e x after w =

@@ -1,8 +1,8 @@
 -- A refusal of a connection: at 23 the area after step 1, at each other one the area as it was.
 use mathlib.Core.Path.{_≡_, refl, sym, ap, _∙_}
-use mathlib.Core.Bool.{Bool, true, false, cond}
+use mathlib.Core.Bool.{false}
 use mathlib.Core.List.{List, [], _∷_}
-use mathlib.Core.Option.{Option, some}
+use mathlib.Core.Option.{Option}
 use Prim.Native.Nat.{ℕ}
 use native.Mathlib.Omega.{arith}
 use lib.Dec.{eqb}
@@ -12,6 +12,7 @@ use denote.Enum.Declared.{tagOf}
 use Rattle.pin_model.specs.Layout.{encode, decode}
 use Rattle.pin_model.specs.Connection.{unlessEmpty}
 use Rattle.pin_model.specs.Judge.{raise, raiseShown}
+use Rattle.pin_model.specs.Calls.{refusedWith}
 use Rattle.pin_model.proofs.TackShown.{shown}
 use Rattle.pin_answers.specs.Numbers.{refusalNumber}
 use Rattle.pin_answers.specs.declared.Refusal.{Refusal}
@@ -19,9 +20,12 @@ use Rattle.pin_answers.proofs.Refusal.{the-type}
 use Rattle.pin_answers.specs.declared.Refusal.the-variants.{AreaLength, Damaged, NameMalformed, ClockAboveLimit, ClockBeforeLatest, HandshakeUnfinished, ExtensionMalformed, BreakIncorrect, KeyNoPoint, GenerationBelowOwn, TargetUnequal, SignatureIncorrect, Revoked, Expired, OneKeyTwice, OtherEdition}
 use Rattle.pin_records.specs.Holds.{Holds}
 
--- the numbers of the cases of `Refusal` but 13, which is that of `Expired`
+-- the tags of `Refusal` but that of `Expired`
+abbrev otherTags : List ℕ
+otherTags = 0 ∷ 1 ∷ 2 ∷ 3 ∷ 4 ∷ 5 ∷ 6 ∷ 7 ∷ 8 ∷ 9 ∷ 10 ∷ 11 ∷ 12 ∷ 14 ∷ 15 ∷ []
+
 abbrev pub Other : Refusal → Type 0
-Other r = OneOf (0 ∷ 1 ∷ 2 ∷ 3 ∷ 4 ∷ 5 ∷ 6 ∷ 7 ∷ 8 ∷ 9 ∷ 10 ∷ 11 ∷ 12 ∷ 14 ∷ 15 ∷ []) (tagOf the-type r)
+Other r = OneOf otherTags (tagOf the-type r)
 
 other-number : (r : Refusal) → Other r → eqb (refusalNumber r) 23 ≡ false
 other-number AreaLength h = refl
@@ -37,13 +41,13 @@ other-number GenerationBelowOwn h = refl
 other-number TargetUnequal h = refl
 other-number SignatureIncorrect h = refl
 other-number Revoked h = refl
-other-number Expired h = absurd (miss (0 ∷ 1 ∷ 2 ∷ 3 ∷ 4 ∷ 5 ∷ 6 ∷ 7 ∷ 8 ∷ 9 ∷ 10 ∷ 11 ∷ 12 ∷ 14 ∷ 15 ∷ []) 13 tt h)
+other-number Expired h = absurd (miss otherTags 13 tt h)
 other-number OneKeyTwice h = refl
 other-number OtherEdition h = refl
 
 module _ (r : Refusal) (tack b : List ℕ) where
   abbrev pub Left : List ℕ → Type 0
-  Left after = after ≡ cond (eqb (refusalNumber r) 23) (encode (raiseShown (unlessEmpty tack) (decode b))) b
+  Left after = after ≡ refusedWith (refusalNumber r) (unlessEmpty tack) b
 
   pub other-left : Other r → Left b
   other-left h = rw (other-number r h)
@@ -52,4 +56,4 @@ module _ (r : Refusal) (tack b : List ℕ) where
   expired-left e long {shownTack} its h =
       h .bytes ∙ ap (λ (x : List ℕ). encode (raise x (decode b))) its
       ∙ ap (λ (o : Option (List ℕ)). encode (raiseShown o (decode b))) (sym (shown tack (λ d. omega arith)))
-      ∙ ap (λ (x : Refusal). cond (eqb (refusalNumber x) 23) (encode (raiseShown (unlessEmpty tack) (decode b))) b) (sym e)
+      ∙ ap (λ (x : Refusal). refusedWith (refusalNumber x) (unlessEmpty tack) b) (sym e)

@@ -17,10 +17,9 @@ use pin_table::slots;
 use tack_extension::reader;
 use tack_extension::reader::Reading;
 ghost use mathlib.Core.Path.{_≡_};
-ghost use mathlib.Core.Bool.{true, false, cond};
+ghost use mathlib.Core.Bool.{true, false};
 ghost use mathlib.Core.List.{map};
 ghost use Prim.Native.Nat.{_≤_};
-ghost use lib.Dec.{eqb};
 ghost use lib.ListN.{length};
 ghost use Rattle.tack_extension.specs.Extension.{parse, tackLength, tackPart, breaksLength, breaksPart};
 ghost use Rattle.tack_extension.specs.Tack.{breakKey, breakSignatures};
@@ -28,7 +27,7 @@ ghost use Rattle.pin_model.specs.Layout.{decode, encode};
 ghost use Rattle.pin_model.specs.Sound.{sound};
 ghost use Rattle.pin_model.specs.Connection.{connection, unlessEmpty, isEnabled};
 ghost use Rattle.pin_model.specs.Refusals.{isNone};
-ghost use Rattle.pin_model.specs.Judge.{raiseShown, learn, noRoomIn, steps};
+ghost use Rattle.pin_model.specs.Judge.{learn, noRoomIn, steps};
 ghost use Rattle.pin_model.specs.Calls as calls;
 ghost use Rattle.pin_answers.specs.Numbers.{refusalNumber, judgementAnswer};
 ghost use Rattle.pin_records.specs.Holds.{Holds, Stored};
@@ -90,10 +89,11 @@ fn apply_shown(area: &mut [u8], name: &[u8], clock: Minutes, extension: &[u8]) -
     )
 }
 
-// A refusal behind 13. An expired tack still revokes: at 23 the floor of its key's record rises, and nothing else changes.
+// A refusal behind 13. An expired tack still revokes: at 23 the floor of its key's record rises, and nothing else changes. It asks for
+// what '18 to 23 need a tack' says, so that the step taken at another of these numbers is refused by what it leaves, and by nothing else.
 fn refuse(area: &mut [u8], extension: &[u8], refusal: Refusal) -> Judgement
     requires { ⌜ Stored (now area) × (18 ≤ refusalNumber refusal → length (tackPart (now extension)) ≡ 166) ⌝ }
-    ensures { λ r. ⌜ (judgementAnswer r ≡ calls.plain (refusalNumber refusal)) × (now (area .exit) ≡ cond (eqb (refusalNumber refusal) 23) (encode (raiseShown (unlessEmpty (tackPart (now (extension .entry)))) (decode (now (area .entry))))) (now (area .entry))) ⌝ }
+    ensures { λ r. ⌜ (judgementAnswer r ≡ calls.plain (refusalNumber refusal)) × (now (area .exit) ≡ calls.refusedWith (refusalNumber refusal) (unlessEmpty (tackPart (now (extension .entry)))) (now (area .entry))) ⌝ }
 {
     if let Refusal::Expired = refusal {
         raise::raise_floor(area, reader::tack_part(extension));

@@ -8,7 +8,7 @@ use native.Mathlib.Omega.{arith}
 use lib.Dec.{eqb, ltb}
 use lib.ListN.{take}
 use borrow.Author.Tests.{lt-ltb, le-ltb}
-use Rattle.octets.proofs.Numbers.{Bytes}
+use Rattle.octets.specs.Octets.{Bytes}
 use Rattle.octets.proofs.Options.{clash}
 use Rattle.host_name.specs.Name.{wellFormed}
 use Rattle.host_name.specs.Folding.{foldedName}

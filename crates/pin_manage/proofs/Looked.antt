@@ -8,20 +8,20 @@ use native.Mathlib.Omega.{arith}
 use lib.Dec.{ltb}
 use lib.IntN.{ℤ, pos, _-ℤ_}
 use lib.ListN.{length, getD, List·getD-eq-default}
-use Rattle.octets.specs.Octets.{same}
 use Rattle.octets.proofs.Tests.{byTest}
 use Rattle.octets.proofs.Options.{clash, byOption}
 use Rattle.pin_table.specs.declared.minutes.Minutes.{Minutes}
 use Rattle.pin_model.specs.Slots.{used}
 use Rattle.pin_model.specs.Table.{clockLimit, KeyRecord, NameRecord, nameIs}
-use Rattle.pin_model.specs.Layout.{decode, placeOf}
-use Rattle.pin_model.specs.Fits.{holds}
+use Rattle.pin_model.specs.Layout.{decode}
+use Rattle.pin_model.specs.Fits.{holds, floorAt}
 use Rattle.pin_model.specs.Refusals.{first, areaTests, nameTest, limitTest}
-use Rattle.pin_model.specs.Calls.{Answer, answerOf, plain, refusal, answer, inspect, floorOf, inspectedWith, inspectedIn, inspectedSecond, inspectedBy}
+use Rattle.pin_model.specs.Calls.{Answer, answerOf, plain, refusal, answer, inspect, inspectedWith, inspectedIn, inspectedSecond, inspectedBy}
 use Rattle.pin_model.proofs.First.{first-here, first-later}
+use Rattle.pin_model.proofs.FloorByte.{floor-placed}
 use Rattle.pin_table.specs.declared.slots.NameSlot.{NameSlot}
 use Rattle.pin_records.specs.Holds.{Stored}
-use Rattle.pin_records.specs.Find.{isFree, firstSlot, secondSlot, nameFound, floorAt, initialAt, endAt}
+use Rattle.pin_records.specs.Find.{isFree, firstSlot, secondSlot, nameFound, initialAt, endAt}
 use Rattle.pin_records.specs.Read.{endFound, pinnedKey}
 use Rattle.pin_records.specs.declared.read.PinEnd.the-variants as pin-end
 use Rattle.pin_records.specs.declared.find.FoundName.the-variants as name-found
@@ -30,12 +30,6 @@ use Rattle.pin_records.proofs.Found.{name-there, name-not-there}
 use Rattle.pin_records.proofs.SecondSlots.{second-passes}
 use Rattle.pin_refusals.proofs.Passed.{call-refused, call-passed}
 use Rattle.pin_manage.specs.Inspected.{recordSlot, inspectedSlot}
-
--- the floor in a key's own slot is the floor of the key
-floor-placed : (key : List ℕ) (keys : List (Option KeyRecord)) → floorAt (getD keys (placeOf key keys) none) ≡ floorOf key (used keys)
-floor-placed key [] = refl
-floor-placed key (none ∷ keys) = floor-placed key keys
-floor-placed key (some x ∷ keys) = byTest (same (x .key) key) (λ e. simp e) (λ e. simp e (floor-placed key keys))
 
 -- what stands in the slot of a name's first or second record; nothing past the last slot
 module _ (name : List ℕ) (clock : ℕ) (keys : List (Option KeyRecord)) where

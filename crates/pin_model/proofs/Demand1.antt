@@ -8,7 +8,7 @@ use native.Mathlib.Omega.{arith}
 use lib.Dec.{eqb, ltb}
 use lib.ListN.{length, getD, drop}
 use borrow.Author.Tests.{eqb-true, eq-eqb, le-ltb}
-use Rattle.octets.specs.Octets.{all, any}
+use Rattle.octets.specs.Octets.{Bytes, all, any}
 use Rattle.octets.proofs.Tests.{is-false, and-left, and-right}
 use Rattle.tack_extension.specs.Tack.{publicKey, generation}
 use Rattle.pin_model.specs.Slots.{bit, count, used}
@@ -18,8 +18,8 @@ use Rattle.pin_model.specs.Sound.{sound}
 use Rattle.pin_model.specs.Connection.{Connection, tackShown, partsOf, ConnectionTwo, tacksShown, partsTwoOf}
 use Rattle.pin_model.specs.Refusals.{first, revoked, tackTests, anyRevoked}
 use Rattle.pin_model.specs.Calls.{Call, inTwo, judge, judgeTwo, delete, inspect, start, folded, ifAny, tacksOfCall, isVerdict, areaTestsOf, tableTestsOf, refusal, floorOf, unrefused, answerBy, answer, areaAfter, answered, areaLeft}
-use Rattle.pin_model.specs.OneFloor.{floorFor, isFloorOf, floorsRaised, AreBytes}
-use Rattle.pin_model.specs.Demand1.{resultsOf, refusalsOf, numbersOf, isOneOf, isRefusal, isExpired, AskedAlike, Demand1}
+use Rattle.pin_model.specs.OneFloor.{floorFor, isFloorOf, floorsRaised}
+use Rattle.pin_model.specs.Demand1.{resultsOf, refusalsOf, numbersOf, isOneOf, isRefusal, expiredInOne, AskedAlike, Demand1}
 use Rattle.pin_model.proofs.Lists.{any-map, any-append, count-some, none-implied}
 use Rattle.pin_model.proofs.First.{first-later}
 use Rattle.pin_model.proofs.Rules.{rules-of}
@@ -54,13 +54,13 @@ module _ (call : Call) (b : List ℕ) where
       go none d = absurd (true≢false (sym d ∙ result-low call (decode b)))
       go (some n) d = refl
 
-  area-refused : isRefusal (answer call b .number) ≡ true → (isExpired call (answer call b .number) ≡ true → AreBytes b)
-      → areaAfter call b ≡ cond (isExpired call (answer call b .number)) (floorsRaised (tacksOfCall call) b) b
+  area-refused : isRefusal (answer call b .number) ≡ true → (expiredInOne call (answer call b .number) ≡ true → Bytes b)
+      → areaAfter call b ≡ cond (expiredInOne call (answer call b .number)) (floorsRaised (tacksOfCall call) b) b
   area-refused h bytes =
       let e = was-refused h in
       refused-after call b (answer call b .number) e ∙ refused-by call b (answer call b .number) e bytes
 
-  area-expired : isExpired call (answer call b .number) ≡ true → AreBytes b → areaAfter call b ≡ floorsRaised (tacksOfCall call) b
+  area-expired : expiredInOne call (answer call b .number) ≡ true → Bytes b → areaAfter call b ≡ floorsRaised (tacksOfCall call) b
   area-expired e bytes =
       let its : answer call b .number ≡ 23 = eqb-true (answer call b .number) 23 (and-right (not (inTwo call)) (eqb (answer call b .number) 23) e) in
       area-refused (ap isRefusal its) (λ d. bytes) ∙ rw e
@@ -193,24 +193,24 @@ two-folded (start two) = refl
 
 -- what is said of a refusal, of the call as it came
 module _ (call : Call) (b : List ℕ) where
-  abbrev its : ℕ
-  its = answer (folded call) b .number
+  abbrev number : ℕ
+  number = answer (folded call) b .number
 
-  expired-folded : isExpired (folded call) its ≡ isExpired call its
-  expired-folded = ap (λ (two : Bool). not two && eqb its 23) (two-folded call)
+  expired-folded : expiredInOne (folded call) number ≡ expiredInOne call number
+  expired-folded = ap (λ (two : Bool). not two && eqb number 23) (two-folded call)
 
-  folded-unchanged : isRefusal its ≡ true → (isExpired call its ≡ true → AreBytes b)
-      → areaAfter (folded call) b ≡ cond (isExpired call its) (floorsRaised (tacksOfCall call) b) b
+  folded-unchanged : isRefusal number ≡ true → (expiredInOne call number ≡ true → Bytes b)
+      → areaAfter (folded call) b ≡ cond (expiredInOne call number) (floorsRaised (tacksOfCall call) b) b
   folded-unchanged refused bytes =
       area-refused (folded call) b refused (λ e. bytes (sym expired-folded ∙ e))
       ∙ ap₂ (λ (e : Bool) (tacks : List (List ℕ)). cond e (floorsRaised tacks b) b) expired-folded (tacks-folded call)
 
-  folded-byte : isExpired call its ≡ true → AreBytes b → (i : ℕ) → any (isFloorOf (decode b) i) (tacksOfCall call) ≡ false
+  folded-byte : expiredInOne call number ≡ true → Bytes b → (i : ℕ) → any (isFloorOf (decode b) i) (tacksOfCall call) ≡ false
       → getD (areaAfter (folded call) b) i 0 ≡ getD b i 0
   folded-byte e bytes i d =
       ap (λ (a : List ℕ). getD a i 0)
       (area-expired (folded call) b (expired-folded ∙ e) bytes ∙ ap (λ (tacks : List (List ℕ)). floorsRaised tacks b) (tacks-folded call))
-      ∙ one-byte call its b i e d
+      ∙ one-byte call number b i e d
 
 pub demand1 : (call : Call) (b : List ℕ) → Demand1 call b
 unfolding answered areaLeft

@@ -1,21 +1,20 @@
 -- The floor of a key record is one byte of the area: what another floor, and step 1, do to the bytes.
 use mathlib.Core.Path.{_≡_, refl, sym, _∙_, ap}
-use mathlib.Core.Bool.{Bool, true, false, cond}
+use mathlib.Core.Bool.{true, false, cond}
 use mathlib.Core.List.{List, [], _∷_}
 use mathlib.Core.Option.{Option, none, some}
-use Prim.Native.Nat.{ℕ, suc, _+_, _*_, _≤_, _<_, max}
+use Prim.Native.Nat.{ℕ, _+_, _*_, _<_, max}
 use native.Mathlib.Omega.{arith}
-use lib.ListN.{length, getD, set}
-use Rattle.octets.specs.Octets.{part, put, same}
+use lib.ListN.{getD, set}
+use Rattle.octets.specs.Octets.{put, same}
 use Rattle.octets.proofs.Tests.{byTest}
-use Rattle.octets.proofs.Options.{never-some, some-injective}
-use Rattle.octets.proofs.Parts.{set-put, put-nested}
+use Rattle.octets.proofs.Parts.{set-put, put-in-part}
 use Rattle.octets.proofs.Equal.{same-eq}
 use Rattle.tack_extension.specs.Tack.{publicKey, minGeneration}
 use Rattle.pin_model.specs.Slots.{used, changed}
 use Rattle.pin_model.specs.Table.{KeyRecord, keyRecord, Table, holding, keyIs, keyRecorded}
 use Rattle.pin_model.specs.Layout.{placeOf, encodeKey, encode, keySlot}
-use Rattle.pin_model.specs.Fits.{Fits}
+use Rattle.pin_model.specs.Fits.{floorAt, Fits}
 use Rattle.pin_model.specs.Judge.{raisedTo, raise}
 use Rattle.pin_model.specs.Calls.{floorOf}
 use Rattle.pin_model.specs.OneFloor.{floorFor, floorPlace}
@@ -24,27 +23,15 @@ use Rattle.pin_model.proofs.KeyPlaces.{PlaceFound, place-found}
 use Rattle.pin_model.proofs.Encoded.{encode-length, encode-key-slot}
 use Rattle.pin_model.proofs.Kept.{withKey, floor-written}
 
--- a change in a slot s of w bytes is the slot put anew
-pub in-slot : (b s : List ℕ) (at w i : ℕ) (vs : List ℕ) → part b at w ≡ s → at + w ≤ length b → i + length vs ≤ w
-    → put b (at + i) vs ≡ put b at (put s i vs)
-in-slot b s at w i vs e room l = sym (put-nested b at w i vs room l) ∙ ap (λ (r : List ℕ). put b at (put r i vs)) e
-
 new-floor : (x : KeyRecord) (floor : ℕ) → put (encodeKey (some x)) 1 (floor ∷ []) ≡ encodeKey (some (keyRecord (x .key) floor))
 unfolding put encodeKey
 new-floor x floor = refl
 
--- the floor of the record at a key's place
-floor-there : (k : List ℕ) (keys : List (Option KeyRecord)) (x : KeyRecord) → getD keys (placeOf k keys) none ≡ some x
-    → floorOf k (used keys) ≡ x .floor
-floor-there k [] x e = never-some e
-floor-there k (none ∷ keys) x e = floor-there k keys x e
-floor-there k (some r ∷ keys) x e = go (same (r .key) k) e (floor-there k keys x)
-  where
-    go : (b : Bool) → getD (some r ∷ keys) (cond b 0 (suc (placeOf k keys))) none ≡ some x
-        → (getD keys (placeOf k keys) none ≡ some x → floorOf k (used keys) ≡ x .floor)
-        → cond b (r .floor) (floorOf k (used keys)) ≡ x .floor
-    go true d ih = ap (λ (y : KeyRecord). y .floor) (some-injective d)
-    go false d ih = ih d
+-- the floor in a key's own slot is the floor of the key
+pub floor-placed : (key : List ℕ) (keys : List (Option KeyRecord)) → floorAt (getD keys (placeOf key keys) none) ≡ floorOf key (used keys)
+floor-placed key [] = refl
+floor-placed key (none ∷ keys) = floor-placed key keys
+floor-placed key (some x ∷ keys) = byTest (same (x .key) key) (λ e. simp e) (λ e. simp e (floor-placed key keys))
 
 module _ (t : Table) (f : Fits t) where
   -- another floor
@@ -53,7 +40,7 @@ module _ (t : Table) (f : Fits t) where
   unfolding keySlot
   floor-set k x floor l e =
       set-put (encode t) (8 + 72 * k + 1) floor (omega (arith, encode-length t f))
-      ∙ in-slot (encode t) (encodeKey (some x)) (8 + 72 * k) 72 1 (floor ∷ []) (encode-key-slot t f k l ∙ ap encodeKey e)
+      ∙ put-in-part (encode t) (encodeKey (some x)) (8 + 72 * k) 72 1 (floor ∷ []) (encode-key-slot t f k l ∙ ap encodeKey e)
       (omega (arith, encode-length t f)) (omega arith)
       ∙ ap (put (encode t) (8 + 72 * k)) (new-floor x floor)
       ∙ floor-written t f k x floor l e .area
@@ -85,4 +72,5 @@ module _ (t : Table) (f : Fits t) where
           (ap at (changed-set (keyIs key) (raisedTo (minGeneration tack)) (t .keys) (placeOf key (t .keys)) x (found .there)
           (same-eq (x .key) key (found .its-key)) (f .keyOnce key))
           ∙ sym (floor-set (placeOf key (t .keys)) x (max (x .floor) (minGeneration tack)) (omega (arith, f .keySlots, found .below)) (found .there))
-          ∙ ap (λ (n : ℕ). set (encode t) (floorPlace t tack) (max n (minGeneration tack))) (sym (floor-there key (t .keys) x (found .there))))
+          ∙ ap (λ (n : ℕ). set (encode t) (floorPlace t tack) (max n (minGeneration tack)))
+          (sym (ap floorAt (found .there)) ∙ floor-placed key (t .keys)))

@@ -10,12 +10,11 @@ use lib.Dec.{eqb}
 use lib.Seq.{drop-cons}
 use lib.ListN.{length, getD, drop}
 use borrow.Author.Tests.{eqb-true, eq-eqb, le-leb}
-use Rattle.octets.specs.Octets.{part, all, any}
+use Rattle.octets.specs.Octets.{Bytes, part, all, any}
 use Rattle.octets.specs.Search.{some as someBelow}
 use Rattle.octets.proofs.Tests.{byTest, and-left, and-right}
 use Rattle.octets.proofs.Search.{every-at, Hit, some-hit}
 use Rattle.octets.proofs.Parts.{part-length}
-use Rattle.octets.proofs.Numbers.{Bytes}
 use Rattle.octets.proofs.Equal.{same-eq}
 use Rattle.pin_model.specs.Slots.{used, apart}
 use Rattle.pin_model.specs.Table.{clockLimit, KeyRecord, Table, keyIs, pinnedTo}

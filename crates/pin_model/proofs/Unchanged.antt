@@ -8,22 +8,22 @@ use lib.Dec.{eqb}
 use lib.ListN.{getD, set}
 use lib.Seq.{getD-set-other}
 use borrow.Author.Tests.{eqb-true, eq-eqb, not-true}
-use Rattle.octets.specs.Octets.{all, any}
+use Rattle.octets.specs.Octets.{Bytes, all, any}
 use Rattle.octets.proofs.Tests.{byTest}
 use Rattle.octets.proofs.Options.{byOption, some-injective}
 use Rattle.tack_extension.specs.Tack.{publicKey, minGeneration}
-use Rattle.pin_model.specs.Table.{Table, keyRecorded}
+use Rattle.pin_model.specs.Table.{keyRecorded}
 use Rattle.pin_model.specs.Layout.{encode, decode}
 use Rattle.pin_model.specs.Sound.{sound}
 use Rattle.pin_model.specs.Connection.{Connection, tackShown}
 use Rattle.pin_model.specs.Refusals.{first, areaTests}
 use Rattle.pin_model.specs.Judge.{raiseShown}
 use Rattle.pin_model.specs.Calls.{Call, judge, judgeTwo, delete, inspect, start, ifAny, tacksOfCall, tableTestsOf, refusal, refusedArea}
-use Rattle.pin_model.specs.OneFloor.{floorFor, floorPlace, isFloorOf, floorRaised, floorsRaised, AreBytes}
-use Rattle.pin_model.specs.Demand1.{refusalsOf, isExpired}
+use Rattle.pin_model.specs.OneFloor.{floorFor, floorPlace, isFloorOf, floorRaised, floorsRaised}
+use Rattle.pin_model.specs.Demand1.{refusalsOf, expiredInOne}
 use Rattle.pin_model.proofs.First.{first-here, first-number}
-use Rattle.pin_model.proofs.Refusals.{AreaFacts, area-facts}
-use Rattle.pin_model.proofs.SoundArea.{SoundArea, sound-decode, sound-fits}
+use Rattle.pin_model.proofs.Refusals.{area-facts}
+use Rattle.pin_model.proofs.SoundArea.{sound-decode, sound-fits}
 use Rattle.pin_model.proofs.FloorByte.{raised-byte}
 use Rattle.pin_model.proofs.Numbers.{one-of, refusal-listed}
 
@@ -39,7 +39,7 @@ expired-sound c b e =
     (λ d. area-facts b [] d .areaSound)
 
 -- step 1 on the bytes of a sound area
-raised-area : (b : List ℕ) → AreBytes b → sound b ≡ true → (shown : Option (List ℕ)) → encode (raiseShown shown (decode b)) ≡ floorsRaised (ifAny shown) b
+raised-area : (b : List ℕ) → Bytes b → sound b ≡ true → (shown : Option (List ℕ)) → encode (raiseShown shown (decode b)) ≡ floorsRaised (ifAny shown) b
 raised-area b bytes h none = sound-decode b bytes h .bytes
 raised-area b bytes h (some tack) =
     raised-byte (decode b) (sound-fits b bytes h) tack
@@ -50,8 +50,8 @@ raised-area b bytes h (some tack) =
 not-expired : (call : Call) (b : List ℕ) (n : ℕ) → refusal call b ≡ some n → all (λ m. not (eqb m 23)) (refusalsOf call) ≡ true → eqb n 23 ≡ false
 not-expired call b n e listed = not-true (eqb n 23) (one-of (λ m. not (eqb m 23)) (refusalsOf call) n listed (refusal-listed call b n e))
 
-pub refused-by : (call : Call) (b : List ℕ) (n : ℕ) → refusal call b ≡ some n → (isExpired call n ≡ true → AreBytes b)
-    → refusedArea call n b ≡ cond (isExpired call n) (floorsRaised (tacksOfCall call) b) b
+pub refused-by : (call : Call) (b : List ℕ) (n : ℕ) → refusal call b ≡ some n → (expiredInOne call n ≡ true → Bytes b)
+    → refusedArea call n b ≡ cond (expiredInOne call n) (floorsRaised (tacksOfCall call) b) b
 refused-by (judge c) b n e bytes =
     byTest (eqb n 23)
     (λ d. rw d (raised-area b (bytes d) (expired-sound c b (e ∙ ap some (eqb-true n 23 d))) (tackShown c)))
@@ -75,7 +75,7 @@ one-raised tack b i = go (keyRecorded (publicKey tack) (decode b))
     go true e = getD-set-other b place i floor 0 (λ d. false≢true (sym e ∙ eq-eqb i place d))
     go false e = refl
 
-pub one-byte : (call : Call) (n : ℕ) (b : List ℕ) (i : ℕ) → isExpired call n ≡ true → any (isFloorOf (decode b) i) (tacksOfCall call) ≡ false
+pub one-byte : (call : Call) (n : ℕ) (b : List ℕ) (i : ℕ) → expiredInOne call n ≡ true → any (isFloorOf (decode b) i) (tacksOfCall call) ≡ false
     → getD (floorsRaised (tacksOfCall call) b) i 0 ≡ getD b i 0
 one-byte (judge c) n b i e d = go (tackShown c) d
   where

@@ -6,12 +6,12 @@ use mathlib.Core.List.{List, [], _∷_, _++_, map}
 use Prim.Native.Nat.{ℕ}
 use lib.Dec.{eqb, leb}
 use lib.ListN.{getD}
-use Rattle.octets.specs.Octets.{any}
+use Rattle.octets.specs.Octets.{Bytes, any}
 use Rattle.pin_model.specs.Table.{Table}
 use Rattle.pin_model.specs.Layout.{decode}
 use Rattle.pin_model.specs.Sound.{sound}
 use Rattle.pin_model.specs.Calls.{Call, judge, judgeTwo, delete, inspect, start, inTwo, tacksOfCall, isVerdict, answered, areaLeft}
-use Rattle.pin_model.specs.OneFloor.{floorFor, isFloorOf, floorsRaised, AreBytes}
+use Rattle.pin_model.specs.OneFloor.{floorFor, isFloorOf, floorsRaised}
 
 -- 'What each number says', 0 to 7: the answers of a call that isn't refused. 4 is 'name not recorded', of inspection too.
 abbrev pub resultsOf : Call → List ℕ
@@ -41,9 +41,9 @@ isOneOf numbers n = any (λ m. eqb m n) numbers
 abbrev pub isRefusal : ℕ → Bool
 isRefusal n = leb 10 n
 
--- 'In edition one .. 23 changes that floor and nothing else' (document 02, Q-4)
-abbrev pub isExpired : Call → ℕ → Bool
-isExpired call n = not (inTwo call) && eqb n 23
+-- 'Mend it for edition one: 23 changes that floor and nothing else' (document 02, Q-4)
+abbrev pub expiredInOne : Call → ℕ → Bool
+expiredInOne call n = not (inTwo call) && eqb n 23
 
 -- what the refusals of a call ask of a table: its edition, its latest clock, and the floors of the keys that the call shows. They
 -- ask neither for its names nor for its free slots.
@@ -53,13 +53,14 @@ pub record AskedAlike (call : Call) (t u : Table) : Type 0 where
   pub floors : map (floorFor t) (tacksOfCall call) ≡ map (floorFor u) (tacksOfCall call)
 
 -- 'each call ends with an answer or a numbered refusal'; 'A refusal changes nothing in the table', but for 23 of edition one, which
--- changes one floor and, byte by byte, nothing else; 'A full table never refuses a connection': where there is no room the call has a
--- verdict, and on a sound table no refusal comes of the room that is left
+-- changes one floor and, byte by byte, nothing else (there the list must be one of bytes: of others `encode` does not give back what
+-- `decode` read); 'A full table never refuses a connection': where there is no room the call has a verdict, and on a sound table no
+-- refusal comes of the room that is left
 pub record Demand1 (call : Call) (b : List ℕ) : Type 0 where
   pub numbered : isOneOf (numbersOf call) (answered call b .number) ≡ true
-  pub unchanged : isRefusal (answered call b .number) ≡ true → (isExpired call (answered call b .number) ≡ true → AreBytes b)
-      → areaLeft call b ≡ cond (isExpired call (answered call b .number)) (floorsRaised (tacksOfCall call) b) b
-  pub oneByte : isExpired call (answered call b .number) ≡ true → AreBytes b
+  pub unchanged : isRefusal (answered call b .number) ≡ true → (expiredInOne call (answered call b .number) ≡ true → Bytes b)
+      → areaLeft call b ≡ cond (expiredInOne call (answered call b .number)) (floorsRaised (tacksOfCall call) b) b
+  pub oneByte : expiredInOne call (answered call b .number) ≡ true → Bytes b
       → (i : ℕ) → any (isFloorOf (decode b) i) (tacksOfCall call) ≡ false → getD (areaLeft call b) i 0 ≡ getD b i 0
   pub verdictWithoutRoom : answered call b .noRoom ≡ true → isVerdict (answered call b .number) ≡ true
   pub sameRefusals : (other : List ℕ) → sound b ≡ true → sound other ≡ true → AskedAlike call (decode b) (decode other)

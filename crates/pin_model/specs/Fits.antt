@@ -17,6 +17,11 @@ abbrev pub holds : {A : Type 0} → (A → Bool) → Option A → Bool
 holds p none = false
 holds p (some a) = p a
 
+-- the floor in a slot, 0 in a free one
+abbrev pub floorAt : Option KeyRecord → ℕ
+floorAt none = 0
+floorAt (some k) = k .floor
+
 -- what four bytes hold is below this
 abbrev pub fourBytes : ℕ
 fourBytes = 4294967296

@@ -1,9 +1,9 @@
 -- The floor of a tack's key as one byte of the area, and the area in which it is raised: document 02, Q-4, in bytes. Demand 1 cites it.
 use mathlib.Core.Bool.{Bool, cond, _&&_}
 use mathlib.Core.List.{List, [], _∷_}
-use Prim.Native.Nat.{ℕ, _+_, _*_, _<_, max}
+use Prim.Native.Nat.{ℕ, _+_, _*_, max}
 use lib.Dec.{eqb}
-use lib.ListN.{getD, set}
+use lib.ListN.{set}
 use Rattle.tack_extension.specs.Tack.{publicKey, minGeneration}
 use Rattle.pin_model.specs.Slots.{used}
 use Rattle.pin_model.specs.Table.{Table, keyRecorded}
@@ -14,7 +14,7 @@ use Rattle.pin_model.specs.Calls.{floorOf}
 abbrev pub floorFor : Table → List ℕ → ℕ
 floorFor t tack = floorOf (publicKey tack) (used (t .keys))
 
--- where it lies, if the key has a record: byte 1 of the key's slot
+-- where it lies, if the key has a record: byte 1 of the key's slot; and whether a byte of the area is this one
 abbrev pub floorPlace : Table → List ℕ → ℕ
 floorPlace t tack = 8 + 72 * placeOf (publicKey tack) (t .keys) + 1
 
@@ -27,11 +27,7 @@ floorRaised tack b =
     let t = decode b in
     cond (keyRecorded (publicKey tack) t) (set b (floorPlace t tack) (max (floorFor t tack) (minGeneration tack))) b
 
--- by each tack of a list
+-- by the tacks that a call shows, of which edition one has at most one
 abbrev pub floorsRaised : List (List ℕ) → List ℕ → List ℕ
 floorsRaised [] b = b
 floorsRaised (tack ∷ tacks) b = floorsRaised tacks (floorRaised tack b)
-
--- the elements of an area are bytes: with greater ones `encode` would not give back what `decode` read
-abbrev pub AreBytes : List ℕ → Type 0
-AreBytes b = (i : ℕ) → getD b i 0 < 256

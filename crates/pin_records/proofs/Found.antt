@@ -17,9 +17,9 @@ use Rattle.pin_model.specs.Table.{KeyRecord, NameRecord, keyIs, nameIs}
 use Rattle.pin_model.specs.Fits.{holds}
 use Rattle.pin_model.proofs.Lists.{count}
 use Rattle.pin_model.proofs.Places.{any-at, any-none, any-once}
+use Rattle.pin_model.proofs.OneSlot.{freed-set, changed-set}
 use Rattle.pin_table.specs.declared.slots.KeySlot.{KeySlot}
 use Rattle.pin_table.specs.declared.slots.NameSlot.{NameSlot}
-use Rattle.pin_model.proofs.OneSlot.{freed-set, changed-set}
 use Rattle.pin_records.specs.Find.{isFree, firstSlot, keyFound, nameFound}
 use Rattle.pin_records.specs.declared.find.FoundKey.the-variants as key-found
 use Rattle.pin_records.specs.declared.find.FoundName.the-variants as name-found

@@ -11,7 +11,7 @@ use Rattle.pin_model.specs.Slots.{used}
 use Rattle.pin_model.specs.Table.{KeyRecord, NameRecord, Table, keyIs, pinnedTo}
 use Rattle.pin_model.specs.Layout.{keyAt, present, orZero, encodeKey, encodeName, decode, keySlot, nameSlot, keyNumber, endPresent, initialIn, endIn}
 use Rattle.pin_model.specs.Sound.{refersTo}
-use Rattle.pin_model.specs.Fits.{holds, nameFits}
+use Rattle.pin_model.specs.Fits.{holds, floorAt, nameFits}
 use Rattle.pin_model.proofs.Lists.{count}
 use Rattle.pin_model.proofs.Places.{freeOr}
 use Rattle.pin_model.proofs.KeyPlaces.{place-found, number-pinned}
@@ -20,7 +20,7 @@ use Rattle.pin_model.proofs.NameBytes.{initial-field, end-field}
 use Rattle.pin_model.proofs.Encoded.{encode-key-slot, encode-name-slot, decode-encode}
 use Rattle.pin_table.specs.declared.minutes.Minutes.{Minutes}
 use Rattle.pin_records.specs.Holds.{Holds, Stored}
-use Rattle.pin_records.specs.Find.{isFree, floorAt, initialAt, endAt}
+use Rattle.pin_records.specs.Find.{isFree, initialAt, endAt}
 use Rattle.pin_records.specs.Read.{endFound, pinnedKey}
 use Rattle.pin_records.specs.declared.read.PinEnd.the-variants as pin-end
 use Rattle.pin_records.proofs.Placed.{Used, is-used}

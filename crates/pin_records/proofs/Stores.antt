@@ -9,7 +9,7 @@ use native.Mathlib.Omega.{arith}
 use lib.ListN.{length, getD, set, replicate}
 use borrow.Author.Tests.{eq-eqb}
 use Rattle.octets.specs.Octets.{part, put, bigEndian}
-use Rattle.octets.proofs.Parts.{set-inside, put-length}
+use Rattle.octets.proofs.Parts.{put-in-part, set-inside, put-length}
 use Rattle.octets.proofs.Numbers.{bigEndian-length}
 use Rattle.octets.proofs.Equal.{same-refl}
 use Rattle.pin_model.specs.Table.{KeyRecord, NameRecord, Table, keyIs, keyRecorded, settledAt, keyRecord, nameRecord}
@@ -22,7 +22,7 @@ use Rattle.pin_model.proofs.NameBytes.{name-length}
 use Rattle.pin_model.proofs.Encoded.{encode-length, encode-name-slot}
 use Rattle.pin_model.proofs.Written.{write-latest}
 use Rattle.pin_model.proofs.Kept.{KeyWritten, NameWritten, fits-latest, floor-written, new-key-written, name-written}
-use Rattle.pin_model.proofs.FloorByte.{in-slot, floor-set}
+use Rattle.pin_model.proofs.FloorByte.{floor-set}
 use Rattle.pin_records.specs.Holds.{Distinct, Holds, withKey, withName}
 use Rattle.pin_records.specs.Find.{isFree}
 use Rattle.pin_records.specs.Store.{withFloor, withEnd, Fresh}
@@ -111,7 +111,7 @@ module _ {b : List ℕ} {t : Table} (h : Holds b t) where
           (name-written t (h .fits) n (some x) l
           (fits-name (t .keys) x (record { short = f .short; recorded = f .recorded; initialFits = f .initialFits; endFits = small })))
           (distinct-same (h .distinct) n (rw (h .fits .nameSlots) l) r x e refl refl)
-          (ap (λ (a : List ℕ). set a (at + 3) 1) (q ∙ in-slot b s at 272 8 vs (name-there n r l e) (omega (arith, h .long)) (omega arith))
+          (ap (λ (a : List ℕ). set a (at + 3) 1) (q ∙ put-in-part b s at 272 8 vs (name-there n r l e) (omega (arith, h .long)) (omega arith))
           ∙ set-inside b at (put s 8 vs) 3 1 (omega (arith, h .long)) (omega arith)
           ∙ ap (put b at) (new-end (t .keys) r end))
 

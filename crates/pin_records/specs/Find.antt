@@ -5,7 +5,7 @@ use mathlib.Core.List.{List, [], _∷_}
 use mathlib.Core.Option.{Option, none, some}
 use Prim.Native.Nat.{ℕ, suc}
 use lib.Dec.{ltb}
-use Rattle.pin_model.specs.Table.{KeyRecord, NameRecord}
+use Rattle.pin_model.specs.Table.{NameRecord}
 use Rattle.pin_records.specs.declared.find.FoundKey.{FoundKey}
 use Rattle.pin_records.specs.declared.find.FoundKey.the-variants as key-found
 use Rattle.pin_records.specs.declared.find.FoundName.{FoundName}
@@ -34,10 +34,6 @@ unfoldable pub nameFound : ℕ → FoundName
 nameFound n = cond (ltb n 128) (name-found.At (record { 0 = n })) name-found.Nothing
 
 -- what stands in a slot, where it is used
-abbrev pub floorAt : Option KeyRecord → ℕ
-floorAt none = 0
-floorAt (some k) = k .floor
-
 abbrev pub initialAt : Option NameRecord → ℕ
 initialAt none = 0
 initialAt (some r) = r .initial

@@ -13,9 +13,10 @@ ghost use Prim.Native.Nat.{_<_};
 ghost use lib.ListN.{length, getD};
 ghost use Rattle.pin_model.specs.Table.{pinnedTo};
 ghost use Rattle.pin_model.specs.Layout.{decode, keyAt};
+ghost use Rattle.pin_model.specs.Fits.{floorAt};
 ghost use Rattle.pin_model.specs.Fits.{holds};
 ghost use Rattle.pin_records.specs.Holds.{Stored};
-ghost use Rattle.pin_records.specs.Find.{isFree, floorAt, initialAt, endAt};
+ghost use Rattle.pin_records.specs.Find.{isFree, initialAt, endAt};
 ghost use Rattle.pin_records.specs.Read.{endFound, pinnedKey};
 
 pub enum PinEnd {

@@ -11,12 +11,12 @@ use Rattle.tack_extension.specs.Tack.{publicKey, generation}
 use Rattle.pin_model.specs.Slots.{used}
 use Rattle.pin_model.specs.Table.{KeyRecord, keyIs}
 use Rattle.pin_model.specs.Layout.{decode}
-use Rattle.pin_model.specs.Fits.{holds}
+use Rattle.pin_model.specs.Fits.{holds, floorAt}
 use Rattle.pin_model.specs.Refusals.{revoked}
 use Rattle.pin_model.proofs.Lists.{none-implied}
 use Rattle.pin_table.specs.declared.slots.KeySlot.{KeySlot}
 use Rattle.pin_records.specs.Holds.{Stored}
-use Rattle.pin_records.specs.Find.{firstSlot, keyFound, floorAt}
+use Rattle.pin_records.specs.Find.{firstSlot, keyFound}
 use Rattle.pin_records.specs.declared.find.FoundKey.the-variants.{At, Nothing}
 use Rattle.pin_records.proofs.Found.{key-found-at, key-absent, found-any}
 

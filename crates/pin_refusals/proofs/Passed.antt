@@ -6,7 +6,7 @@ use mathlib.Core.Option.{Option, none, some}
 use Prim.Native.Nat.{ℕ}
 use lib.ListN.{length}
 use borrow.Author.Tests.{eq-eqb}
-use Rattle.octets.proofs.Numbers.{Bytes}
+use Rattle.octets.specs.Octets.{Bytes}
 use Rattle.host_name.specs.Name.{wellFormed}
 use Rattle.pin_model.specs.Layout.{areaLength, encode, decode}
 use Rattle.pin_model.specs.Sound.{sound}

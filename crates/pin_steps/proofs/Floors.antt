@@ -11,10 +11,10 @@ use Rattle.octets.specs.Octets.{any}
 use Rattle.tack_extension.specs.Tack.{publicKey, minGeneration}
 use Rattle.pin_model.specs.Slots.{used, changed}
 use Rattle.pin_model.specs.Table.{KeyRecord, Table, keyIs, keyRecord}
+use Rattle.pin_model.specs.Fits.{floorAt}
 use Rattle.pin_model.specs.Judge.{raisedTo, raise}
 use Rattle.pin_model.proofs.OneSlot.{changed-none}
 use Rattle.pin_records.specs.Holds.{Holds, withKey}
-use Rattle.pin_records.specs.Find.{floorAt}
 use Rattle.pin_records.specs.Store.{withFloor}
 use Rattle.pin_records.proofs.Found.{FoundAt, found-changed}
 use Rattle.pin_steps.proofs.Tacks.{with-keys}

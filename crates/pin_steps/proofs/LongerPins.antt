@@ -17,10 +17,10 @@ use Rattle.pin_model.specs.Judge.{extendedTo, extend}
 use Rattle.pin_model.proofs.Lists.{none-implied, count-implied}
 use Rattle.pin_model.proofs.SoundFacts.{sound-facts}
 use Rattle.pin_model.proofs.Initials.{record-initial}
+use Rattle.pin_model.proofs.OneSlot.{changed-none, changed-set}
 use Rattle.pin_records.specs.Holds.{Holds, withName}
 use Rattle.pin_records.specs.Find.{initialAt}
 use Rattle.pin_records.specs.Store.{withEnd}
-use Rattle.pin_model.proofs.OneSlot.{changed-none, changed-set}
 use Rattle.pin_records.proofs.DistinctNames.{one-record}
 use Rattle.pin_records.proofs.Found.{FoundAt, found-any}
 use Rattle.pin_steps.specs.Steps.{extendedAt}

@@ -24,12 +24,12 @@ use Rattle.pin_model.proofs.Places.{any-at, any-none}
 use Rattle.pin_model.proofs.Initials.{record-initial}
 use Rattle.pin_model.proofs.SoundFacts.{sound-facts, facts-sound}
 use Rattle.pin_model.proofs.SoundTwo.{Stage, each-stage}
+use Rattle.pin_model.proofs.OneSlot.{changed-set}
 use Rattle.pin_table.specs.declared.slots.NameSlot.{NameSlot}
 use Rattle.pin_records.specs.Holds.{Holds, withName}
 use Rattle.pin_records.specs.Find.{isFree, firstSlot, nameFound, initialAt}
 use Rattle.pin_records.specs.Store.{Fresh}
 use Rattle.pin_records.specs.declared.find.FoundName.the-variants as name-found
-use Rattle.pin_model.proofs.OneSlot.{changed-set}
 use Rattle.pin_records.proofs.Placed.{Used, is-used, holds-used, first-passes, first-absent}
 use Rattle.pin_records.proofs.HeldSlots.{holds-decode}
 use Rattle.pin_records.proofs.Found.{FreeAt, name-there, name-not-there}

@@ -10,8 +10,8 @@ use lib.Dec.{ltb, eqb}
 use lib.ListN.{length, getD, length-append}
 use lib.Seq.{take-all, take-append-seam, drop-append-seam}
 use borrow.Author.Tests.{le-leb, eq-eqb}
-use Rattle.octets.specs.Octets.{part, number, bigEndian}
-use Rattle.octets.proofs.Numbers.{Bytes, bytes-front, bytes-behind, number-bigEndian, bigEndian-number, bigEndian-two, bigEndian-length, number-four}
+use Rattle.octets.specs.Octets.{Bytes, part, number, bigEndian}
+use Rattle.octets.proofs.Numbers.{bytes-front, bytes-behind, number-bigEndian, bigEndian-number, bigEndian-two, bigEndian-length, number-four}
 use Rattle.host_name.specs.Folding.{foldedName}
 use Rattle.pin_model.specs.declared.Checks.{Checks}
 use Rattle.pin_model.specs.Connection.{Connection, connection, checksBy, partsOf, tackShown, enabled, breaksShown, brokenKeys}

@@ -8,9 +8,9 @@ use Prim.Native.Nat.{ℕ, zero, suc, _<_}
 use native.Mathlib.Omega.{arith}
 use lib.Dec.{leb}
 use lib.ListN.{length, take, drop, getD}
-use Rattle.octets.specs.Octets.{number, bigEndian}
+use Rattle.octets.specs.Octets.{Bytes, number, bigEndian}
 use Rattle.octets.proofs.Tests.{and-left, and-right, and-both}
-use Rattle.octets.proofs.Numbers.{Bytes, bytes-behind, number-bigEndian, bigEndian-number, bigEndian-two}
+use Rattle.octets.proofs.Numbers.{bytes-behind, number-bigEndian, bigEndian-number, bigEndian-two}
 use Rattle.tack_extension.specs.Extension.{Parts, parts, good, bytesOf, read, tackLength, breaksLength, lengthStep, tackStep, breaksStep, activationStep, afterTack, afterBreaks, afterActivation, parse}
 use Rattle.tack_extension.specs.Answers.{writing, output}
 use Rattle.tack_extension.specs.declared.answers.Writing.the-variants.{Written}

@@ -7,7 +7,7 @@ use mathlib.Core.Option.{none, some}
 use Prim.Native.Nat.{ℕ}
 use native.Mathlib.Omega.{arith}
 use lib.ListN.{length, take, drop}
-use Rattle.octets.proofs.Numbers.{Bytes}
+use Rattle.octets.specs.Octets.{Bytes}
 use Rattle.tack_extension.specs.Answers.{writing, output}
 use Rattle.tack_extension.specs.declared.answers.Writing.the-variants.{Written}
 use Rattle.tack_extension.proofs.RoundTrip.{length-rewrites, length-back}

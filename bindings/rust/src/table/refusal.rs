@@ -40,8 +40,8 @@ pub enum Refusal {
     ///
     /// An expired tack still revokes. In edition one this refusal raises the floor of the tack's key to the tack's
     /// min_generation, if the key has a record with a lower one: tacks of lower generations are then
-    /// [revoked](Refusal::GenerationRevoked). Nothing else in the table changes, so a table that is kept is kept anew after it.
-    /// In edition two it changes nothing.
+    /// [revoked](Refusal::GenerationRevoked). So a table that is kept in a file is kept anew after it. Nothing else in the table
+    /// changes. In edition two it changes nothing at all.
     Expired = 23,
     /// 24: the two tacks of edition two have one key.
     OneKeyTwice = 24,
@@ -134,7 +134,8 @@ impl fmt::Display for NoRefusal {
 
 impl std::error::Error for NoRefusal {}
 
-/// A call was refused, and the table is as it was: the reason, and the alert that the library answered with.
+/// A call was refused: the reason, and the alert that the library answered with. The table is as it was, but for one floor at
+/// [`Refusal::Expired`].
 ///
 /// ```
 /// use tack::table::{Checks, Connection, PinTable, Refusal};

@@ -1,5 +1,4 @@
--- At 23 step 1, and at the others nothing. What `raise_floor` asks holds at any number from 18 on, so that a floor raised at another of
--- them is refused by what it leaves.
+-- At 23 step 1, and at the others nothing. What `raise_floor` asks holds at any number from 18 on.
 use mathlib.Core.Path.{refl, ap, _∙_}
 use native.Mathlib.Omega.{arith}
 use borrow.Author.Needs.{needs}

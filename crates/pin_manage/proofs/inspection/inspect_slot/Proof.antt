@@ -6,7 +6,7 @@ use native.Mathlib.Omega.{arith}
 use lib.ListN.{getD}
 use borrow.Author.Needs.{needs}
 use Rattle.pin_model.specs.Layout.{decode}
-use Rattle.pin_records.specs.Find.{floorAt}
+use Rattle.pin_model.specs.Fits.{floorAt}
 use Rattle.pin_manage.proofs.Differences.{difference-kept}
 use Rattle.pin_manage.proofs.Looked.{said-without-end, said-with-end, answer-with-end}
 use Rattle.pin_manage.proofs.inspection.inspect_slot.Statement.{statement}
