@@ -5,6 +5,7 @@ use mathlib.Core.List.{List, [], _∷_}
 use Prim.Native.Nat.{ℕ, _≤_, max}
 use native.Mathlib.Omega.{arith}
 use lib.Dec.{eqb}
+use borrow.Author.Tests.{eqb-true}
 use Rattle.pin_model.specs.Table.{clockLimit, Table, empty, without}
 use Rattle.pin_model.specs.Connection.{Connection, tackShown, enabled, brokenKeys, ConnectionTwo, tacksShown}
 use Rattle.pin_model.specs.Judge.{raiseShown, judged}
@@ -102,12 +103,13 @@ pub expired-invariant : (c : Connection) (t : Table) (es : List Entry) (n : ℕ)
     → Invariant (raiseShown (tackShown c) t) (entry (judge c) n ∷ es)
 unfolding journal
 expired-invariant c t es n refused expired invariant =
-    learned-invariant (judge c) n (raiseShown (tackShown c) t) (journal es) es (rw refused) (rw (refused, expired))
+    learned-invariant (judge c) n (raiseShown (tackShown c) t) (journal es) es (rw refused)
+    (ap (isCounted (judge c)) (eqb-true n 23 expired))
     (raised-learned (tackShown c) t (journal es) (λ k. highest k (since k es)) invariant)
 
 pub judge-two-invariant : (c : ConnectionTwo) (t : Table) (es : List Entry) (n : ℕ) → isVerdict n ≡ true → contradicted (c .name) (c .clock) (tacksShown c) (raisedTwo c t) ≡ eqb n 2
     → Invariant t es → SoundFacts t → ConnectionTwoFacts c t → Invariant (judgedTwo c t) (entry (judgeTwo c) n ∷ es)
 unfolding journal
 judge-two-invariant c t es n verdict its invariant facts passed =
-    learned-invariant (judgeTwo c) n (judgedTwo c t) (enteredTwo (c .name) (c .clock) (tacksShown c) n (journal es)) es (rw verdict) verdict
+    learned-invariant (judgeTwo c) n (judgedTwo c t) (enteredTwo (c .name) (c .clock) (tacksShown c) n (journal es)) es (rw verdict) (rw verdict)
     (judged-two-learned c t (journal es) (λ k. highest k (since k es)) invariant facts passed n its)
