@@ -116,17 +116,19 @@ bool tack_name_well_formed(const uint8_t *name, size_t length);
 
 /* Judges one finished connection of edition one and brings the table up to date. spki_sha256 is the SHA-256 of the server's
  * SubjectPublicKeyInfo; bit i of breaks_correct, the lowest being 0, says that break signature i is correct. The extension's
- * bytes are ignored where none came, and so are answers about what the extension does not hold. */
+ * bytes are ignored where none came, and so are answers about what the extension does not hold. With learn_disabled a record is
+ * made although the server is disabled, as for a scanner that reads tacks before they are enabled; a gateway says false: then a
+ * call with activation 0 makes and replaces no record, and no_room is false. */
 tack_judgement tack_judge(uint8_t *table, size_t table_length, uint64_t clock,
                           const uint8_t *name, size_t name_length,
                           bool extension_came, const uint8_t *extension, size_t extension_length,
                           const uint8_t *spki_sha256, size_t spki_sha256_length,
                           bool handshake_finished, bool key_is_point, bool signature_correct,
-                          uint8_t breaks_correct);
+                          uint8_t breaks_correct, bool learn_disabled);
 
-/* The same in edition two. Bit 0 of keys_are_points says that the key of the first tack is a P-256 point, bit 1 that the key of
- * the second is; bits 0 and 1 of signatures_correct say that their signatures are correct. Other bits, and bits of absent
- * tacks, are ignored. */
+/* The same in edition two, where only enabled tacks make records. Bit 0 of keys_are_points says that the key of the first tack is
+ * a P-256 point, bit 1 that the key of the second is; bits 0 and 1 of signatures_correct say that their signatures are correct.
+ * Other bits, and bits of absent tacks, are ignored. */
 tack_judgement tack2_judge(uint8_t *table, size_t table_length, uint64_t clock,
                            const uint8_t *name, size_t name_length,
                            bool extension_came, const uint8_t *extension, size_t extension_length,
@@ -149,10 +151,11 @@ tack_outcome tack_start(uint8_t *table, size_t table_length, bool edition_two);
 /* So many bytes are always enough for one recorded call. */
 #define TACK_LONGEST_CALL 4452
 
-/* Writes one call as a gateway records it: the arguments of tack_judge besides the table, the name as it is spelled. A night of
- * recorded calls, one behind the other and all of edition one, is what the program `replay` reads. 9 with the number of bytes
- * written; 25 where a part cannot be recorded: a clock above 32 bits, a name above 300 bytes, a hash that is not of 32 bytes,
- * an extension that came and is above 4,096 bytes; 26 where there is no space. */
+/* Writes one call as a gateway records it: the arguments of tack_judge besides the table and learn_disabled, the name as it is
+ * spelled. A night of recorded calls, one behind the other and all of edition one, is what the program `replay` reads; it judges
+ * each with learn_disabled, so that a gateway which judged without it may have been answered otherwise. 9 with the number of
+ * bytes written; 25 where a part cannot be recorded: a clock above 32 bits, a name above 300 bytes, a hash that is not of 32
+ * bytes, an extension that came and is above 4,096 bytes; 26 where there is no space. */
 tack_writing tack_call_write(uint64_t clock, const uint8_t *name, size_t name_length,
                              bool extension_came, const uint8_t *extension, size_t extension_length,
                              const uint8_t *spki_sha256, size_t spki_sha256_length,

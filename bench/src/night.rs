@@ -65,6 +65,7 @@ fn second(table: &[u8], night: &[Recorded]) -> Outcome {
             key_is_point: true,
             signature_correct: true,
             breaks_correct: 0,
+            learn_disabled: true,
         };
         let judged = second::judge(&mut table, &connection);
         (judged.number, judged.alert, judged.no_room)

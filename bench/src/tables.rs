@@ -36,7 +36,8 @@ pub fn showing(key: &[u8; 64]) -> Vec<u8> {
     [&[166], &tack(key)[..], &[0, 0, 1]].concat()
 }
 
-/// A connection that passes every check.
+/// A connection that passes every check. It gives the yes for disabled tacks, as `replay` does in each call; every tack here is
+/// enabled, so that the work is the same without it.
 pub fn connection<'a>(clock: u64, name: &'a [u8], extension: &'a [u8]) -> Connection<'a> {
     Connection {
         clock,
@@ -48,6 +49,7 @@ pub fn connection<'a>(clock: u64, name: &'a [u8], extension: &'a [u8]) -> Connec
         key_is_point: true,
         signature_correct: true,
         breaks_correct: 0,
+        learn_disabled: true,
     }
 }
 

@@ -1,5 +1,5 @@
-/* Reads an extension of each edition through the C interface, and malformed ones; records a call; judges a server of edition
- * two that moves from one key to another through two tacks. */
+/* Reads an extension of each edition through the C interface, and malformed ones; records a call; judges a disabled server of
+ * edition one, and a server of edition two that moves from one key to another through two tacks. */
 #include "tack.h"
 #include <stdio.h>
 #include <string.h>
@@ -42,6 +42,25 @@ static void put_tack(uint8_t *tack, uint8_t key) {
     memset(tack, key, 64);
     memset(tack + 64, 3, 2);
     memset(tack + 66, 0xff, 4);
+}
+
+/* A server that shows its tack disabled gets no pin, but where the caller asks for it. */
+static void disabled_server(bool learn_disabled) {
+    static uint8_t table[TACK_TABLE_LENGTH];
+    const uint8_t name[] = {'a', '.', 'b'};
+    const uint8_t hash[32] = {0};
+    uint8_t tack[166], extension[170];
+    tack_judgement judged;
+    tack_inspection inspected;
+
+    put_tack(tack, 0x11);
+    tack_extension_write(tack, sizeof tack, NULL, 0, 0, extension, sizeof extension);
+    tack_start(table, sizeof table, false);
+    judged = tack_judge(table, sizeof table, 1000, name, sizeof name, true, extension, sizeof extension, hash, sizeof hash,
+                        true, true, true, 0, learn_disabled);
+    inspected = tack_inspect(table, sizeof table, name, sizeof name, 1000, false);
+    printf("%d %d %d\n", judged.number, judged.alert, judged.no_room);
+    printf("%d %u\n", inspected.number, inspected.initial);
 }
 
 /* One tack, disabled; with bit 1 of the flags, which is the second tack's, it is malformed. */
@@ -120,13 +139,15 @@ static void other_edition(void) {
 
     tack_start(table, sizeof table, true);
     judged = tack_judge(table, sizeof table, 1000, name, sizeof name, false, NULL, 0, hash, sizeof hash,
-                        true, true, true, 0);
+                        true, true, true, 0, false);
     printf("%d %d %d\n", judged.number, judged.alert, judged.no_room);
 }
 
 int main(void) {
     extension_of_edition_one();
     recorded_call();
+    disabled_server(false);
+    disabled_server(true);
     extension_of_edition_two();
     move_to_another_key();
     other_edition();

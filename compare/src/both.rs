@@ -2,6 +2,8 @@
 
 use crate::area;
 use crate::call::{Answer, By, Call};
+use crate::disabled;
+use crate::either_choice;
 use crate::kept;
 use tack::raw;
 use tack::table::Refusal;
@@ -22,7 +24,7 @@ pub fn is_sound(table: &[u8]) -> Result<bool, String> {
 }
 
 /// Runs the call by both and compares every field of the answer and every byte of the table, which is left as both left it;
-/// where the number says what that is, it is compared with this too.
+/// where the papers say what that is by the number, or for want of an enabled tack, it is compared with this too.
 pub fn call(table: &mut [u8], call: &Call) -> Result<Answer, String> {
     let given = by_both(call, table)
         .map_err(|problem| format!("{problem}; numbers in hexadecimal: {call:02x?}"))?;
@@ -36,6 +38,7 @@ fn by_both(call: &Call, before: &[u8]) -> Result<Given, String> {
     proved.same_as(&second, ["proved", "second"])?;
     let answer = proved.answer;
     kept::check(call, answer.number, before, &proved.table)
+        .and_then(|()| disabled::check(call, &answer, before, &proved.table))
         .map_err(|problem| format!("both agree, but {problem}: {answer:?}"))?;
     match answer.number >= 10 && Refusal::try_from(answer.number).is_err() {
         true => Err(format!("the safe crate knows no refusal of {answer:?}")),
@@ -44,7 +47,8 @@ fn by_both(call: &Call, before: &[u8]) -> Result<Given, String> {
 }
 
 /// The call by one program: its table keeps small letters only, and capitals in the call's name make no difference. Each call
-/// of a list so gets the table that the list in small letters would give it, and leaves the table that it would leave.
+/// of a list so gets the table that the list in small letters would give it, and leaves the table that it would leave. Nor does
+/// the yes for disabled tacks make a difference where it may not.
 fn by(program: By, call: &Call, before: &[u8]) -> Result<Given, String> {
     let of_program = |problem| format!("{program:?}: {problem}");
     let given = Given::new(program, call, before);
@@ -53,6 +57,12 @@ fn by(program: By, call: &Call, before: &[u8]) -> Result<Given, String> {
         let small = Given::new(program, &call.in_small_letters(), before);
         given
             .same_as(&small, ["as spelled", "in small letters"])
+            .map_err(of_program)?;
+    }
+    if let Some(other) = either_choice::other(call, given.answer.number, before) {
+        let other = Given::new(program, &other, before);
+        given
+            .same_as(&other, ["with its own choice", "with the other choice"])
             .map_err(of_program)?;
     }
     Ok(given)

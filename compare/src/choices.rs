@@ -158,10 +158,15 @@ impl<'a> Choices<'a> {
         }
     }
 
+    /// Judging with the yes or without it, chosen anew for each call.
     pub fn judgement(&mut self) -> Call {
-        Call::Judge(self.connection())
+        Call::Judge(Connection {
+            learn_disabled: self.random.one_in(2),
+            ..self.connection()
+        })
     }
 
+    /// With the yes and no choice about it: nights are made of these connections too, and `replay` gives it in each call.
     pub fn connection(&mut self) -> Connection {
         let name = self.name();
         let clock = self.clock(&name);
@@ -179,6 +184,7 @@ impl<'a> Choices<'a> {
             key_is_point: !self.is_wrong(),
             signature_correct: !self.is_wrong(),
             breaks_correct: self.breaks_correct(breaks.len()),
+            learn_disabled: true,
         }
     }
 
@@ -345,5 +351,29 @@ impl<'a> Choices<'a> {
             }
         }
         bytes
+    }
+}
+
+#[cfg(test)]
+mod tests {
+    use super::*;
+
+    /// Of 200 connections by the table of a list.
+    fn with_the_yes(mut chosen: impl FnMut(&mut Choices) -> Connection) -> usize {
+        let mut random = Random::new(1);
+        let (mix, _) = Mix::of_list(&mut random);
+        let area = Area::empty();
+        let connections = (0..200).map(|_| chosen(&mut Choices::new(&mix, &area, &mut random)));
+        connections.filter(|made| made.learn_disabled).count()
+    }
+
+    #[test]
+    fn only_a_list_chooses_whether_to_give_the_yes() {
+        let of_lists = with_the_yes(|choices| match choices.judgement() {
+            Call::Judge(connection) => connection,
+            other => panic!("{other:?} is no judging of edition one"),
+        });
+        assert!((60..=140).contains(&of_lists), "{of_lists} of 200");
+        assert_eq!(with_the_yes(|choices| choices.connection()), 200);
     }
 }

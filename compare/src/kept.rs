@@ -3,9 +3,11 @@
 
 use crate::area::{self, Area};
 use crate::call::{Call, Connection};
+use crate::wire::Tack;
 use std::borrow::Cow;
 
-/// An error where the table after the call is not the one that its number says. Verdicts and a deletion say none here.
+/// An error where the table after the call is not the one that its number says. Verdicts and a deletion say none here; what a
+/// verdict leaves that records nothing is held in [`disabled`](crate::disabled).
 pub fn check(call: &Call, number: u8, before: &[u8], after: &[u8]) -> Result<(), String> {
     let expected = match (number, call) {
         (0..=3, _) => return Ok(()),
@@ -13,7 +15,12 @@ pub fn check(call: &Call, number: u8, before: &[u8], after: &[u8]) -> Result<(),
         (23, Call::Judge(connection)) => Cow::Owned(after_expired(before, connection)?),
         _ => Cow::Borrowed(before),
     };
-    match area::first_difference(after, &expected) {
+    same_table(number, after, &expected)
+}
+
+/// An error where the table after a call with this number is not the expected one.
+pub fn same_table(number: u8, after: &[u8], expected: &[u8]) -> Result<(), String> {
+    match area::first_difference(after, expected) {
         None => Ok(()),
         Some(at) => Err(format!(
             "{} is {} after {number}, not {}",
@@ -24,18 +31,22 @@ pub fn check(call: &Call, number: u8, before: &[u8], after: &[u8]) -> Result<(),
     }
 }
 
-/// Document 02, Q-4: the floor of the tack's key, if it is recorded, is the higher of itself and min_generation. No other byte
-/// changes.
+/// Document 02, Q-4: the floor of the tack's key is raised. No other byte changes.
 fn after_expired(before: &[u8], connection: &Connection) -> Result<Vec<u8>, String> {
     let tack = connection.tack().ok_or("23 came without a tack")?;
     let mut area = Area {
         bytes: before.to_vec(),
     };
+    raise_floor(&mut area, &tack);
+    Ok(area.bytes)
+}
+
+/// Step 1 of judging: the floor of the tack's key, if it is recorded, is the higher of itself and min_generation.
+pub fn raise_floor(area: &mut Area, tack: &Tack) {
     if let Some(slot) = area.find_key(&tack.key) {
         let floor = &mut area.key_slot_mut(slot)[1];
         *floor = tack.min_generation.max(*floor);
     }
-    Ok(area.bytes)
 }
 
 #[cfg(test)]
@@ -44,7 +55,7 @@ mod tests {
     use crate::call::ConnectionTwo;
     use crate::make::generation_3;
     use crate::small_tables::{with_pins_in, LATEST};
-    use crate::wire::{self, Tack};
+    use crate::wire;
 
     /// Key slots 3 and 9 are used; the floor of slot 9 is 3.
     fn table() -> Area {

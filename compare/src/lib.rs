@@ -8,6 +8,8 @@
 //! * [`spelling`]: names in letters of either case, which every part above mixes.
 //! * [`wire`], [`record`], [`area`]: the bytes of extensions, recorded calls and tables, without the help of either program.
 //! * [`both`], [`kept`]: one call by both programs, and what its number says of the table afterwards.
+//! * [`disabled`], [`either_choice`], [`creation`]: what a call of edition one may record by its tack's activation and its own
+//!   choice.
 //! * [`tally`], [`kind_counts`]: how often each number and each kind came.
 //! * [`watchdog`]: an end for a comparison in which a call hangs.
 
@@ -16,10 +18,15 @@ pub mod area;
 pub mod both;
 pub mod call;
 pub mod choices;
+pub mod creation;
 pub mod damage;
+pub mod disabled;
 pub mod edition_two;
+pub mod either_choice;
 pub mod extensions;
 pub mod extensions_two;
+#[cfg(test)]
+mod full_table;
 pub mod kept;
 pub mod kind_counts;
 pub mod length;

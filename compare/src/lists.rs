@@ -2,6 +2,7 @@
 
 pub(crate) mod ages;
 pub(crate) mod aside;
+pub(crate) mod disabled;
 pub(crate) mod expired;
 pub(crate) mod spellings;
 
@@ -12,6 +13,7 @@ use crate::choices::{Choices, Mix};
 use crate::random::Random;
 use crate::tally::Tally;
 use ages::Ages;
+use disabled::Disabled;
 use expired::Expired;
 use spellings::Spellings;
 use tack::extension::Extension;
@@ -24,6 +26,7 @@ pub struct Lists {
     room: Room,
     ages: Ages,
     expired: Expired,
+    disabled: Disabled,
 }
 
 /// How often a pin found a full table.
@@ -104,11 +107,13 @@ impl Lists {
             }
             self.expired
                 .add(&before, &call, &answer, &area)
+                .and_then(|()| self.disabled.add(&before, &call, &answer, &area))
                 .map_err(|problem| format!("both agree, but {problem}: {call:02x?}"))?;
             calls += 1;
         }
         self.spellings.end_list();
         self.expired.end_list();
+        self.disabled.end_list();
         Ok(calls)
     }
 
@@ -119,7 +124,8 @@ impl Lists {
         Ok(answer)
     }
 
-    /// The verdict: every number, every spelling, every kind of room, every age of a pin and every kind of expired tack came.
+    /// The verdict: every number, every spelling, every kind of room, every age of a pin, every kind of expired tack and every kind
+    /// of record that is made or not by a call's choice came.
     pub fn finish(&self) -> Result<(), String> {
         let numbers: Vec<u8> = (0..=7).chain(10..=23).collect();
         self.numbers.report("calls of lists", &numbers)?;
@@ -127,6 +133,7 @@ impl Lists {
         self.spellings.report("calls of lists", &named)?;
         self.room.report()?;
         self.ages.report("pins")?;
-        self.expired.report()
+        self.expired.report()?;
+        self.disabled.report()
     }
 }

@@ -50,6 +50,17 @@ fn the_scenes_tell_the_bundled_report() {
     assert_eq!(lines.join("\n") + "\n", REPORT);
 }
 
+/// A night's calls give the yes for disabled tacks where they are judged one by one too, or the club would have no pin.
+#[test]
+fn the_calls_one_by_one_are_judged_as_told() {
+    let mut area = Area::empty();
+    for (index, told) in stories::told().iter().enumerate() {
+        let judged = second::judge(&mut area.bytes, &told.call.for_second());
+        let answer = (judged.number, judged.no_room);
+        assert_eq!(answer, (told.number, told.no_room), "call {index}");
+    }
+}
+
 #[test]
 fn every_number_and_no_room_come() {
     let told = stories::told();

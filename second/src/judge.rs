@@ -3,8 +3,9 @@
 //!
 //! Every refusal but 23 comes before the first change, so it leaves the table as
 //! it was. "An expired tack still revokes": 23 comes when the floor is raised,
-//! and before any other change. The table is lent as an area, or kept parsed by
-//! a caller with many calls.
+//! and before any other change. "Don't learn from disabled servers": a new record
+//! needs activation 1, or the call's explicit yes for the old way. The table is
+//! lent as an area, or kept parsed by a caller with many calls.
 
 use crate::answer::{
     alert_of, BREAK_SIGNATURE_INCORRECT, CONFIRMED, CONTRADICTED, EXPIRED, EXTENSION_MALFORMED,
@@ -19,8 +20,8 @@ use crate::pins::{NoRoom, PinTable};
 use crate::refusal::{admit, refuse_if};
 use crate::table::parse;
 
-/// What the caller knows of the connection. Answers for absent things are
-/// ignored.
+/// What the caller knows of the connection, and whether it asks for the old way.
+/// Answers for absent things are ignored.
 #[derive(Debug, Clone, Copy, PartialEq, Eq)]
 pub struct Connection<'a> {
     pub clock: u64,
@@ -33,6 +34,10 @@ pub struct Connection<'a> {
     pub signature_correct: bool,
     /// Bit i, the lowest being 0, says that break signature i is correct.
     pub breaks_correct: u8,
+    /// The "explicit yes" by which a call asks "for the old way", in which
+    /// creation does not look at activation. The default is no: "edition one
+    /// makes a record only if activation is 1".
+    pub learn_disabled: bool,
 }
 
 #[derive(Debug, Clone, Copy, PartialEq, Eq)]
@@ -93,6 +98,7 @@ struct Case<'a> {
     name: FoldedName,
     clock: Minutes,
     extension: Extension,
+    learn_disabled: bool,
 }
 
 impl<'a> Case<'a> {
@@ -115,6 +121,7 @@ impl<'a> Case<'a> {
             name,
             clock,
             extension,
+            learn_disabled: connection.learn_disabled,
         };
         case.check_breaks(connection.breaks_correct)?;
         if let Some(tack) = &case.extension.tack {
@@ -178,11 +185,18 @@ impl<'a> Case<'a> {
                 Ok(())
             }
             Some((name_record, _)) if name_record.is_active(self.clock) => Ok(()),
-            // Creation does not look at activation.
+            // "No room" is said only where this step "wants a record"; where it
+            // does not, an inactive record stays as well.
+            _ if !self.may_make_record() => Ok(()),
             _ => self
                 .table
                 .create(&self.name, key, tack.min_generation, self.clock),
         }
+    }
+
+    /// Only creation looks at the explicit yes; the other steps do not.
+    fn may_make_record(&self) -> bool {
+        self.extension.activation || self.learn_disabled
     }
 
     /// By the record that stands after the steps.

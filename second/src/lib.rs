@@ -11,7 +11,7 @@
 //! * [`judge`](mod@judge), [`judge_two`](mod@judge_two): the verdict on one
 //!   finished connection.
 //! * [`night`]: the calls of a recorded night, its report and its tally; all of
-//!   edition one.
+//!   edition one, and all learning from disabled servers.
 //! * [`manage`]: deletion and inspection of a name, starting a table.
 //! * [`table`]: the lent area as bytes, and what makes it sound.
 //! * [`pins`], [`records`]: the key records and name records behind it.

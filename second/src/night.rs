@@ -4,6 +4,10 @@
 //! length and that many bytes: clock, name, answers, hash, the extension if
 //! one came, and an empty end. The report has a line for each call, then the
 //! total; the first bad call ends it with the line `bad`.
+//!
+//! The recorded form has no place for the choice whether to learn from disabled
+//! servers. The replay tool asks "for the old way by an explicit yes in each
+//! call", so every call that is read has the yes.
 
 use std::fmt;
 use std::io::{self, BufWriter, ErrorKind, Read, Write};
@@ -55,7 +59,7 @@ pub enum NotRecordable {
 }
 
 /// Appends a recorded call, its name as the caller spelled it; a refusal
-/// appends nothing.
+/// appends nothing. Whether the call asks for the old way is not recorded.
 pub fn write_call(call: &Connection, out: &mut Vec<u8>) -> Result<(), NotRecordable> {
     let clock = u32::try_from(call.clock).map_err(|_| NotRecordable::ClockAbove32Bits)?;
     let extension_length = call.extension.map_or(0, <[u8]>::len);
@@ -94,7 +98,8 @@ fn answers_of(call: &Connection) -> u8 {
 }
 
 /// The first call of the night and the bytes after it, or nothing if the call
-/// is cut off or otherwise bad. No byte after the longest call is looked at.
+/// is cut off or otherwise bad. The call asks for the old way. No byte after the
+/// longest call is looked at.
 pub fn read_call(night: &[u8]) -> Option<(Connection<'_>, &[u8])> {
     let mut fields = Fields { rest: night };
     let clock = *fields.take_exactly::<CLOCK_LENGTH>(CLOCK)?;
@@ -119,6 +124,7 @@ pub fn read_call(night: &[u8]) -> Option<(Connection<'_>, &[u8])> {
         key_is_point: answers & KEY_IS_POINT != 0,
         signature_correct: answers & SIGNATURE_CORRECT != 0,
         breaks_correct,
+        learn_disabled: true,
     };
     Some((call, fields.rest))
 }

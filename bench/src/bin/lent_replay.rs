@@ -1,5 +1,5 @@
 //! Replays a night from standard input by a `judge` on lent bytes, and writes its report to standard output; or makes a part of
-//! each call alone, for timing.
+//! each call alone, for timing. Each call is judged as `replay` judges it, with the yes for disabled tacks.
 //!
 //! * `lent_replay judge`: the proved library's `judge`, which checks the 39,432 bytes in every call.
 //! * `lent_replay second-judge`: the second program's, which parses and writes them in every call.
@@ -44,6 +44,7 @@ fn by_proved(table: &mut [u8], call: &Connection) -> Answer {
         key_is_point: call.key_is_point,
         signature_correct: call.signature_correct,
         breaks_correct: call.breaks_correct,
+        learn_disabled: call.learn_disabled,
     };
     let judged = raw::judge(table, &connection);
     (judged.number, judged.alert, judged.no_room)

@@ -60,6 +60,9 @@ impl fmt::Display for NotRecordable {
 impl std::error::Error for NotRecordable {}
 
 /// Appends one recorded call to the night, its name as it is spelled, and nothing on an error.
+///
+/// A recording has no place for [`learn_disabled`](crate::table::Checks::learn_disabled), and `replay` says yes in each call: a
+/// gateway that judges by the default and meets disabled servers may be answered otherwise than the report of its night.
 pub fn record(connection: &Connection, night: &mut Vec<u8>) -> Result<(), NotRecordable> {
     let mut call = [0; LONGEST_CALL];
     // There is always space, so 25 is the only refusal.

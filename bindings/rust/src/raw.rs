@@ -76,7 +76,7 @@ pub struct Inspection {
     pub minutes_left: i64,
 }
 
-/// The arguments of `tack_judge` besides the table, and of `tack_call_write` besides the output.
+/// The arguments of `tack_judge` besides the table; `tack_call_write` takes all but the last of them, and an output.
 #[derive(Debug, Clone, Copy)]
 pub struct Connection<'a> {
     /// Minutes since 1970.
@@ -97,6 +97,8 @@ pub struct Connection<'a> {
     pub signature_correct: bool,
     /// Bit i, the lowest being 0, says that break signature i is correct.
     pub breaks_correct: u8,
+    /// Whether a pin is made although the server is disabled. A recorded call has no place for it: `replay` always says yes.
+    pub learn_disabled: bool,
 }
 
 /// The arguments of `tack2_judge` besides the table.
@@ -168,6 +170,7 @@ mod library {
             key_is_point: bool,
             signature_correct: bool,
             breaks_correct: u8,
+            learn_disabled: bool,
         ) -> Judgement;
         pub fn tack2_judge(
             table: *mut u8,
@@ -309,6 +312,7 @@ pub fn judge(table: &mut [u8], connection: &Connection) -> Judgement {
             connection.key_is_point,
             connection.signature_correct,
             connection.breaks_correct,
+            connection.learn_disabled,
         )
     }
 }

@@ -1,6 +1,6 @@
 //! The pin table: connections judged, names deleted and inspected.
 //!
-//! A clinic's server shows a tack. The first connection makes a pin, the next one activates it for as long as it has stood,
+//! A clinic's server shows a tack, enabled. The first connection makes a pin, the next one activates it for as long as it has stood,
 //! and until it ends a server without the key is contradicted:
 //!
 //! ```
@@ -168,7 +168,8 @@ impl PinTable {
     }
 
     /// Judges one finished connection of edition one and brings the table up to date. By a table of edition two it is refused
-    /// with [`Refusal::OtherEdition`]. A refusal changes nothing, but [`Refusal::Expired`] may raise one floor.
+    /// with [`Refusal::OtherEdition`]. A refusal changes nothing, but [`Refusal::Expired`] may raise one floor. A server that
+    /// shows its tack disabled gets no pin, unless the caller [asks for it](Checks::learn_disabled).
     pub fn judge(&mut self, connection: &Connection) -> Result<Judgement, Refused> {
         judgement(raw::judge(&mut self.area[..], &connection.arguments()))
     }

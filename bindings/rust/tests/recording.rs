@@ -78,6 +78,7 @@ fn no_space() {
         key_is_point: false,
         signature_correct: false,
         breaks_correct: 0,
+        learn_disabled: false,
     };
     let bad = raw::Connection {
         clock: 1 << 32,
@@ -95,4 +96,15 @@ fn no_space() {
     let answer = raw::call_write(&good, &mut out);
     assert_eq!((answer.number, answer.alert, answer.written), (9, 0, 54));
     assert_eq!(out[51..], [6, 0, 0, 7]);
+}
+
+/// A recording has no place for it: a night is played with the yes.
+#[test]
+fn the_choice_about_a_disabled_server_is_not_recorded() {
+    let call = call(b"a", Some(&[8]));
+    let with_yes = call.with_checks(call.checks.with_learn_disabled(true));
+    let [mut with, mut without] = [vec![], vec![]];
+    assert_eq!(night::record(&with_yes, &mut with), Ok(()));
+    assert_eq!(night::record(&call, &mut without), Ok(()));
+    assert_eq!(with, without);
 }

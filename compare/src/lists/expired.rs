@@ -4,7 +4,7 @@
 use crate::area::{Area, Key};
 use crate::call::{Answer, Call, Connection};
 use crate::kind_counts::{counted_kinds, KindCounts};
-use crate::wire::{self, Tack};
+use crate::wire::Tack;
 use std::cmp::Ordering;
 use std::collections::BTreeMap;
 
@@ -90,7 +90,7 @@ impl Expired {
     }
 
     fn add_breaks(&mut self, before: &Area, connection: &Connection, own: &Key) {
-        let mut broken = wire::broken_keys(&connection.extension);
+        let mut broken = connection.broken_keys();
         broken.retain(|key| before.find_key(key).is_some());
         if broken.contains(own) {
             self.left.add(Left::OwnKey);
@@ -155,13 +155,12 @@ impl Expired {
 
 /// By step 2 of judging.
 fn record_left(before: &Area, connection: &Connection, key: &Key) -> Option<Left> {
-    let is_enabled = connection.extension.last() == Some(&1);
     let Some(slot) = before.find_name(&connection.name) else {
         return Some(Left::NoName);
     };
     let record = before.record(slot);
     match before.key(record.key_slot) == *key {
-        true if is_enabled => Some(Left::OwnRecord),
+        true if connection.is_enabled() => Some(Left::OwnRecord),
         false if !record.is_active(connection.clock) => Some(Left::OtherRecord),
         _ => None,
     }
@@ -173,6 +172,7 @@ mod tests {
     use crate::kind_counts::Kind;
     use crate::make::generation_3;
     use crate::small_tables::{with_pins_in, LATEST};
+    use crate::wire;
     use tack::table::Edition;
 
     /// One key is recorded, with this floor.

@@ -89,6 +89,7 @@ mod tests {
     use super::*;
     use crate::call::{By, Call};
     use crate::lists::expired::Expired;
+    use crate::make;
 
     /// By the second program alone: 23 raises floors, and some numbers 22 come for no other reason.
     #[test]
@@ -104,5 +105,23 @@ mod tests {
             expired.end_list();
         }
         assert_eq!(expired.report(), Ok(()));
+    }
+
+    /// By the second program alone; some verdicts are of records that only the yes makes.
+    #[test]
+    fn calls_are_judged_as_they_are_replayed() {
+        for seed in 0..5 {
+            let mut area = Area::empty();
+            let night: Vec<Connection> = random(400, seed).collect();
+            let judged = night.iter().enumerate().map(|(index, call)| {
+                let judged = second::judge(&mut area.bytes, &call.for_second());
+                let no_room = u8::from(judged.no_room);
+                format!("{index} {} {} {no_room}\n", judged.number, judged.alert)
+            });
+            let judged: String = judged.collect();
+            let bytes = make::bytes(night).expect("a made night is recordable");
+            let report = String::from_utf8(second::report(&bytes)).expect("it is text");
+            assert_eq!(report, format!("{judged}total 400\n"));
+        }
     }
 }

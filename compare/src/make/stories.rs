@@ -378,15 +378,13 @@ fn everything_wrong_and_mended(story: &mut Story) {
         wire::extension(Some(&tack), &[[CHESS_KEY; 64]], 1)
     };
     let mut call = Connection {
-        clock: u64::from(u32::MAX),
-        name: b"Pharmacy.Clinic.Example.".to_vec(),
         extension_came: true,
-        extension: vec![],
         hash: vec![0x78; 32],
         handshake_finished: false,
         key_is_point: false,
         signature_correct: false,
         breaks_correct: 0,
+        ..at(u32::MAX, "Pharmacy.Clinic.Example.")
     };
     story.tell(call.clone(), NAME_MALFORMED);
     call.name = b"Pharmacy.Clinic.Example".to_vec();
@@ -415,7 +413,8 @@ fn everything_wrong_and_mended(story: &mut Story) {
     story.tell(call, CONFIRMED);
 }
 
-/// A pin is made with activation disabled too, but only an enabled tack activates it, here to 6,400.
+/// Each call of a night gives the yes: a pin is made with activation disabled too, but only an enabled tack activates it, here to
+/// 6,400.
 fn club_is_disabled_first(story: &mut Story) {
     let club = || tack(CLUB_KEY, 0, 0);
     story.tell(at(6_000, CLUB).with(disabled(club())), UNPINNED);

@@ -43,8 +43,10 @@ impl Writers {
     pub fn cases(&mut self, calls: usize, random: &mut Random) -> Result<(), String> {
         let (mix, _) = Mix::of_list(random);
         let area = Area::empty();
-        for _ in 0..calls {
+        for number in 0..calls {
             let mut call = Choices::new(&mix, &area, random).connection();
+            // It has no place in a recording, which is the same with either.
+            call.learn_disabled = number % 2 == 0;
             if random.one_in(8) {
                 let any = random.below(2 * LONGEST_NAME);
                 let length = *random.pick(&[any, LONGEST_NAME, LONGEST_NAME + 1]);

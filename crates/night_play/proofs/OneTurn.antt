@@ -1,6 +1,6 @@
 -- One turn: the call at its places is the recorded one, and its line is the report's.
 use mathlib.Core.Path.{_≡_, refl, sym, ap, subst, _∙_}
-use mathlib.Core.Bool.{Bool}
+use mathlib.Core.Bool.{Bool, true}
 use mathlib.Core.List.{List}
 use Prim.Native.Nat.{ℕ, _+_, _-_, _≤_, _<_, _/_, _%_}
 use native.Mathlib.Nat.{add-zero}
@@ -28,7 +28,7 @@ use Rattle.night_play.specs.declared.Turn.the-variants as turn
 -- the answers of what the code reads in two bytes
 pub checks-read : (s : List ℕ) (at : ℕ) {finished point correct : Bool} {bits : ℕ}
     → finished ≡ eqb (getD s at 0 / 1 % 2) 1 → point ≡ eqb (getD s at 0 / 2 % 2) 1 → correct ≡ eqb (getD s at 0 / 4 % 2) 1 → bits ≡ getD s (at + 1) 0
-    → checksBy finished point correct bits ≡ checksOf (part s at 2)
+    → checksBy finished point correct bits true ≡ checksOf (part s at 2)
 checks-read s at e₁ e₂ e₃ e₄ =
     let first : getD (part s at 2) 0 0 ≡ getD s at 0 = part-at s at 2 0 (omega arith) ∙ ap (λ (k : ℕ). getD s k 0) (add-zero at) in
     let second : getD (part s at 2) 1 0 ≡ getD s (at + 1) 0 = part-at s at 2 1 (omega arith) in

@@ -37,7 +37,7 @@ fn is_yes(answers: u8, power: u8) -> bool
     answers / power % 2 == 1
 }
 
-// The caller's answers, which stand in the two bytes from `at`.
+// The caller's answers, which stand in the two bytes from `at`. A night is played the old way: a disabled server gets a record too.
 fn checks_at(night: &[u8], at: usize) -> Checks
     requires { ⌜ at + 2 ≤ length (now night) ⌝ }
     ensures { λ r. ⌜ r ≡ checksOf (part (now (night .entry)) at 2) ⌝ }
@@ -48,6 +48,7 @@ fn checks_at(night: &[u8], at: usize) -> Checks
         key_is_point: is_yes(answers, 2),
         signature_correct: is_yes(answers, 4),
         breaks_correct: night[at + 1],
+        learn_disabled: true,
     }
 }
 

@@ -119,7 +119,7 @@ module _ (name tack : List ℕ) (clock : ℕ) (t : Table) (sound : soundTable (s
         ∙ ap (λ (b : Bool). cond b (changed (nameIs name) (λ r. new) (t .names)) (placed new (t .names))) (sym unrecorded)) g)
 
   -- a name whose record, in slot n, is replaced
-  module _ (one : t .two ≡ false) {n : ℕ} (x : FoundAt (λ r. r .name) name (t .names) 128 n) (wanted : wantsRecord name clock tack t ≡ true) where
+  module _ (one : t .two ≡ false) {n : ℕ} (x : FoundAt (λ r. r .name) name (t .names) 128 n) (wanted : wantsRecord true name clock tack t ≡ true) where
     gone : set (t .names) n none ≡ freed (nameIs name) (t .names)
     gone = sym (found-freed x (name-once (facts name tack clock t sound) one name))
 
@@ -140,7 +140,7 @@ module _ (name tack : List ℕ) (clock : ℕ) (t : Table) (sound : soundTable (s
       pub removed-room : keyRoom tack (decode d) ≡ true
       removed-room =
           ap (keyRoom tack) (holds-decode g)
-          ∙ ap (λ (b : Bool). b || hasFree (without name t .keys)) (wanted-key name clock tack (facts name tack clock t sound) wanted) ∙ left-room
+          ∙ ap (λ (b : Bool). b || hasFree (without name t .keys)) (wanted-key name clock tack (facts name tack clock t sound) true wanted) ∙ left-room
 
       pub replaced : {a : List ℕ} → Holds a (withName (withKeys (keyedFor tack (decode d .keys)) (decode d)) n (some new)) → Holds a (withRecord name clock tack t)
       replaced {a} h =
@@ -151,23 +151,23 @@ module _ (name tack : List ℕ) (clock : ℕ) (t : Table) (sound : soundTable (s
           (subst (λ (u : Table). Holds a (withName (withKeys (keyedFor tack (u .keys)) u) n (some new))) (holds-decode g) h)
 
 -- the step's answer and its table
-module _ (name tack : List ℕ) (clock : ℕ) (t : Table) {b : List ℕ} where
-  answered : (wants room : Bool) → wantsRecord name clock tack t ≡ wants → roomFor name tack t ≡ room
+module _ (may : Bool) (name tack : List ℕ) (clock : ℕ) (t : Table) {b : List ℕ} where
+  answered : (wants room : Bool) → wantsRecord may name clock tack t ≡ wants → roomFor name tack t ≡ room
       → Holds b (cond (wants && room) (withRecord name clock tack t) t)
-      → ((wants && not room) ≡ noRoomFor name clock tack t) × Holds b (create name clock tack t)
+      → ((wants && not room) ≡ noRoomFor may name clock tack t) × Holds b (create may name clock tack t)
   answered wants room e f h = (
     sym (ap₂ (λ (w r : Bool). w && not r) e f),
     subst (λ (made : Bool). Holds b (cond made (withRecord name clock tack t) t)) (sym (ap₂ _&&_ e f)) h,
   )
 
-  pub unwanted : Holds b t → wantsRecord name clock tack t ≡ false
-      → (false ≡ noRoomFor name clock tack t) × Holds b (create name clock tack t)
+  pub unwanted : Holds b t → wantsRecord may name clock tack t ≡ false
+      → (false ≡ noRoomFor may name clock tack t) × Holds b (create may name clock tack t)
   unwanted h e = answered false (roomFor name tack t) e refl h
 
-  pub no-room : Holds b t → wantsRecord name clock tack t ≡ true → roomFor name tack t ≡ false
-      → (true ≡ noRoomFor name clock tack t) × Holds b (create name clock tack t)
+  pub no-room : Holds b t → wantsRecord may name clock tack t ≡ true → roomFor name tack t ≡ false
+      → (true ≡ noRoomFor may name clock tack t) × Holds b (create may name clock tack t)
   no-room h e f = answered true false e f h
 
-  pub created : Holds b (withRecord name clock tack t) → wantsRecord name clock tack t ≡ true → roomFor name tack t ≡ true
-      → (false ≡ noRoomFor name clock tack t) × Holds b (create name clock tack t)
+  pub created : Holds b (withRecord name clock tack t) → wantsRecord may name clock tack t ≡ true → roomFor name tack t ≡ true
+      → (false ≡ noRoomFor may name clock tack t) × Holds b (create may name clock tack t)
   created h e f = answered true true e f h

@@ -31,10 +31,13 @@ ghost use Rattle.pin_records.specs.Find.{isFree};
 ghost use Rattle.pin_records.specs.Store.{Fresh};
 ghost use Rattle.pin_steps.specs.Steps.{keyOfName, withKeys};
 
-fn wants_record(area: &[u8], name: &[u8], tack: &[u8], clock: Minutes) -> bool
+fn wants_record(area: &[u8], name: &[u8], tack: &[u8], clock: Minutes, may_record: bool) -> bool
     requires { ⌜ Stored (now area) × (length (now tack) ≡ 166) × (decode (now area) .two ≡ false) ⌝ }
-    ensures { λ r. ⌜ r ≡ wantsRecord (now (name .entry)) (clock .0) (now (tack .entry)) (decode (now (area .entry))) ⌝ }
+    ensures { λ r. ⌜ r ≡ wantsRecord «may_record» (now (name .entry)) (clock .0) (now (tack .entry)) (decode (now (area .entry))) ⌝ }
 {
+    if !may_record {
+        return false;
+    }
     let FoundName::At(n) = find::find_name(area, name) else {
         return true;
     };
@@ -132,7 +135,7 @@ fn add(area: &mut [u8], name: &[u8], tack: &[u8], clock: Minutes)
 
 // A record in place of the one in slot n, where there is room: it keeps its slot, and its old key goes if no name is left.
 fn replace(area: &mut [u8], n: NameSlot, name: &[u8], tack: &[u8], clock: Minutes)
-    requires { ⌜ Stored (now area) × (n .0 < 128) × (length (now tack) ≡ 166) × (wellFormed (now name) ≡ true) × (soundTable (settledAt (clock .0) (decode (now area))) ≡ true) × (holds (nameIs (now name)) (getD (decode (now area) .names) (n .0) none) ≡ true) × (wantsRecord (now name) (clock .0) (now tack) (decode (now area)) ≡ true) × (roomFor (now name) (now tack) (decode (now area)) ≡ true) × (decode (now area) .two ≡ false) ⌝ }
+    requires { ⌜ Stored (now area) × (n .0 < 128) × (length (now tack) ≡ 166) × (wellFormed (now name) ≡ true) × (soundTable (settledAt (clock .0) (decode (now area))) ≡ true) × (holds (nameIs (now name)) (getD (decode (now area) .names) (n .0) none) ≡ true) × (wantsRecord true (now name) (clock .0) (now tack) (decode (now area)) ≡ true) × (roomFor (now name) (now tack) (decode (now area)) ≡ true) × (decode (now area) .two ≡ false) ⌝ }
     ensures { λ _. ⌜ Holds (now (area .exit)) (withRecord (now (name .entry)) (clock .0) (now (tack .entry)) (decode (now (area .entry)))) ⌝ }
 {
     remove::clear_name(area, n);
@@ -140,12 +143,18 @@ fn replace(area: &mut [u8], n: NameSlot, name: &[u8], tack: &[u8], clock: Minute
     store_new(area, n, name, tack, clock);
 }
 
-// Step 2(ii) whole. The answer is 'no room', with which nothing changes.
-pub fn create_record(area: &mut [u8], name: &[u8], tack: &[u8], clock: Minutes) -> bool
+// Step 2(ii) whole, for a call that may make a record or may not. The answer is 'no room', with which nothing changes.
+pub fn create_record(
+    area: &mut [u8],
+    name: &[u8],
+    tack: &[u8],
+    clock: Minutes,
+    may_record: bool,
+) -> bool
     requires { ⌜ Stored (now area) × (length (now tack) ≡ 166) × (wellFormed (now name) ≡ true) × (soundTable (settledAt (clock .0) (decode (now area))) ≡ true) × (decode (now area) .two ≡ false) ⌝ }
-    ensures { λ r. ⌜ (r ≡ noRoomFor (now (name .entry)) (clock .0) (now (tack .entry)) (decode (now (area .entry)))) × Holds (now (area .exit)) (create (now (name .entry)) (clock .0) (now (tack .entry)) (decode (now (area .entry)))) ⌝ }
+    ensures { λ r. ⌜ (r ≡ noRoomFor «may_record» (now (name .entry)) (clock .0) (now (tack .entry)) (decode (now (area .entry)))) × Holds (now (area .exit)) (create «may_record» (now (name .entry)) (clock .0) (now (tack .entry)) (decode (now (area .entry)))) ⌝ }
 {
-    if !wants_record(area, name, tack, clock) {
+    if !wants_record(area, name, tack, clock, may_record) {
         return false;
     }
     if !has_room(area, name, tack, clock) {

@@ -1,4 +1,5 @@
--- E1 to E12, the spellings of Q-2 and the expired tacks of Q-4 hold: computed on the model's tables, and carried over to bytes by the run.
+-- E1 to E12, the spellings of Q-2, the expired tacks of Q-4 and the disabled servers of Q-7 hold: computed on the model's tables, and
+-- carried over to bytes by the run.
 use mathlib.Core.Path.{_≡_, refl, _∙_}
 use mathlib.Core.Bool.{false}
 use Rattle.octets.specs.Octets.{number, numberAfter}
@@ -6,7 +7,7 @@ use Rattle.tack_extension.specs.Extension.{tackStep, breaksStep, activationStep
 use Rattle.pin_model.specs.Layout.{joined, encodeKey, encodeName, encode}
 use Rattle.pin_model.specs.Run.{areaOf}
 use Rattle.pin_journal.proofs.Main.{area-run, answer-run}
-use Rattle.pin_examples.specs.Examples.{ReadingRight, Row, Right, after, Every, nothing, _also_, e4, e4Area, e5, e5Inspected, e6, e7, e8, e8Inspected, e9, e10, e11, e12At1000, e12At1001, spelledMade, spelledConfirmed, spelledContradicted, spelledInspected, spelledAZ, spelledBeforeA, spelledBehindZ, expiredRaises, expiredArea, expiredRevokes, expiredAllows, expiredBreak, expiredBreakInspected, expiredLower, expiredLowerInspected, expiredUnrecorded, readingExamples, spelledExamples, expiredExamples, Examples}
+use Rattle.pin_examples.specs.Examples.{ReadingRight, Row, Right, after, Every, nothing, _also_, e4, e4Area, e5, e5Inspected, e6, e7, e8, e8Inspected, e9, e10, e11, e12At1000, e12At1001, spelledMade, spelledConfirmed, spelledContradicted, spelledInspected, spelledAZ, spelledBeforeA, spelledBehindZ, expiredRaises, expiredArea, expiredRevokes, expiredAllows, expiredBreak, expiredBreakInspected, expiredLower, expiredLowerInspected, expiredUnrecorded, disabledDefault, disabledArea, disabledYes, disabledKeeps, disabledKeepsInspected, yesReplaces, yesReplacesInspected, readingExamples, spelledExamples, expiredExamples, disabledExamples, Examples}
 use Rattle.pin_examples.proofs.Model.{modelAnswer}
 
 right : (r : Row) → modelAnswer false (r .history) (r .call) ≡ r .gives → Right r
@@ -86,6 +87,20 @@ expired-bytes : areaOf false (after expiredRaises) ≡ expiredArea
 unfolding modelAnswer encode joined encodeKey encodeName e4Area
 expired-bytes = area-run false (after expiredRaises) ∙ refl
 
+disabled-right : Every Right disabledExamples
+unfolding modelAnswer
+disabled-right =
+    right disabledDefault refl also right disabledYes refl also right disabledKeeps refl also right disabledKeepsInspected refl
+    also right yesReplaces refl also right yesReplacesInspected refl also nothing
+
+disabled-bytes : areaOf false (after disabledDefault) ≡ disabledArea
+unfolding modelAnswer encode joined encodeKey encodeName disabledArea
+disabled-bytes = area-run false (after disabledDefault) ∙ refl
+
+yes-bytes : areaOf false (after disabledYes) ≡ e4Area
+unfolding modelAnswer encode joined encodeKey encodeName e4Area
+yes-bytes = area-run false (after disabledYes) ∙ refl
+
 pub examples-hold : Examples
 examples-hold = record {
   readings = e1-e2-e3-right;
@@ -96,4 +111,7 @@ examples-hold = record {
   spellings = spellings-right;
   expired = expired-right;
   expiredBytes = expired-bytes;
+  disabled = disabled-right;
+  disabledBytes = disabled-bytes;
+  yesBytes = yes-bytes;
 }

@@ -9,7 +9,7 @@ use Rattle.tack_extension.specs.Tack.{publicKey, targetHash, breakKey, eachBrea
 use Rattle.tack_extension.specs.Answers.{alertOf, alertOfTwo}
 use Rattle.tack_extension_two.specs.ExtensionTwo.{bytesOfTwo, tacksStep, flagsStep, parseTwo}
 use Rattle.pin_model.specs.Table.{Table}
-use Rattle.pin_model.specs.Connection.{partsOf, tackShown, enabled, breaksShown, brokenKeys, partsTwoOf, tacksIn, tacksShown}
+use Rattle.pin_model.specs.Connection.{partsOf, tackShown, enabled, mayRecord, breaksShown, brokenKeys, partsTwoOf, tacksIn, tacksShown}
 use Rattle.pin_model.specs.Judge.{judged, noRoom, verdict}
 use Rattle.pin_model.specs.JudgeTwo.{verdictTwo, judgedTwo, noRoomTwo}
 use Rattle.pin_model.specs.Calls.{Call, folded, Answer}
@@ -18,7 +18,7 @@ use Rattle.pin_journal.proofs.TableRun.{tableRefusal, tableAnswer, tableNext, t
 -- the table after a list of calls, and what a call is answered after a history: where they unfold, all that they are made of
 -- computes
 unfoldable pub modelTable : Bool → List Call → Table
-unfolding tableRun tableNext tableRefusal judged partsOf tackShown enabled breaksShown brokenKeys publicKey targetHash breakKey eachBreak breakSignatures bytesOf tackStep breaksStep activationStep parse partsTwoOf tacksIn tacksShown judgedTwo bytesOfTwo tacksStep flagsStep parseTwo isLabel betweenDots wellFormed foldedName part same bigEndian number numberAfter
+unfolding tableRun tableNext tableRefusal judged partsOf tackShown enabled mayRecord breaksShown brokenKeys publicKey targetHash breakKey eachBreak breakSignatures bytesOf tackStep breaksStep activationStep parse partsTwoOf tacksIn tacksShown judgedTwo bytesOfTwo tacksStep flagsStep parseTwo isLabel betweenDots wellFormed foldedName part same bigEndian number numberAfter
 modelTable two calls = tableRun two calls
 
 unfoldable pub modelAnswer : Bool → List Call → Call → Answer

@@ -1,9 +1,9 @@
--- E1 to E12 of document 01, 'Examples on both sides', spellings of a name for document 02, Q-2, and expired tacks for Q-4: one table
--- under one statement, `Examples`.
+-- E1 to E12 of document 01, 'Examples on both sides', spellings of a name for document 02, Q-2, expired tacks for Q-4 and disabled
+-- servers for Q-7: one table under one statement, `Examples`.
 use mathlib.Core.Path.{_≡_}
-use mathlib.Core.Bool.{true, false}
+use mathlib.Core.Bool.{Bool, true, false}
 use mathlib.Core.List.{List, [], _∷_, _++_}
-use Prim.Native.Nat.{ℕ, _*_}
+use Prim.Native.Nat.{ℕ, _*_, _-_}
 use lib.IntN.{pos}
 use lib.ListN.{replicate, set}
 use Rattle.octets.specs.Octets.{bigEndian}
@@ -52,18 +52,21 @@ host = 0x61 ∷ 0x2E ∷ 0x62 ∷ []
 abbrev pub hash : List ℕ
 hash = replicate 32 0x22
 
--- a tack of 'K all 0x11', by min_generation, generation and expiration; any bytes are its signature
+-- a tack by its key, min_generation, generation and expiration, any bytes being its signature; and one of 'K all 0x11'
+abbrev pub tackUnder : List ℕ → ℕ → ℕ → ℕ → List ℕ
+tackUnder key minGeneration generation expiration =
+    key ++ minGeneration ∷ generation ∷ bigEndian 4 expiration ++ hash ++ replicate 64 0x33
+
 abbrev pub tack : ℕ → ℕ → ℕ → List ℕ
-tack minGeneration generation expiration =
-    replicate 64 0x11 ++ minGeneration ∷ generation ∷ bigEndian 4 expiration ++ hash ++ replicate 64 0x33
+tack = tackUnder (replicate 64 0x11)
 
 -- an expiration after every clock below
 abbrev pub later : ℕ
 later = 4294967295
 
--- 'break signatures are absent, other checks pass'
+-- 'break signatures are absent, other checks pass'; nothing is asked for (document 02, Q-7)
 abbrev pub pass : Checks
-pass = checksBy true true true 0
+pass = checksBy true true true 0 false
 
 -- a connection by its name and clock, with a tack and activation 1, or with 'no extension'
 abbrev pub showing : List ℕ → ℕ → List ℕ → Connection
@@ -219,7 +222,7 @@ expiredAllows = row (after expiredRaises) (withTack 1600 (tack 4 5 later)) (plai
 abbrev pub expiredBreak : Row
 expiredBreak =
     let bytes = bytesOf (parts (tack 5 5 1000) (replicate 64 0x11 ++ replicate 64 0x33) 1) in
-    row (after e4) (judge (connection 1001 host true bytes hash (checksBy true true true 1))) (alerted 23 45)
+    row (after e4) (judge (connection 1001 host true bytes hash (checksBy true true true 1 false))) (alerted 23 45)
 
 abbrev pub expiredBreakInspected : Row
 expiredBreakInspected = row (after expiredBreak) (inspect false host 1001) (answerOf false 5 false 5 1000 0 (pos 0))
@@ -233,6 +236,38 @@ expiredLowerInspected = row (after expiredLower) (inspect false host 1001) (answ
 
 abbrev pub expiredUnrecorded : Row
 expiredUnrecorded = row (after e12At1001) (inspect false host 1001) (plain 4)
+
+-- 'edition one makes a record only if activation is 1', or 'the old way by an explicit yes' (document 02, Q-7): a connection with
+-- activation 0, by that yes or no, its clock and its tack
+abbrev pub disabledBy : Bool → ℕ → List ℕ → Call
+disabledBy learnDisabled clock t =
+    judge (connection clock host true (bytesOf (parts t [] 0)) hash (checksBy true true true 0 learnDisabled))
+
+-- E4's call with activation 0: by the default the table is all zero but latest, with the yes it is E4's
+abbrev pub disabledDefault : Row
+disabledDefault = row [] (disabledBy false 1000 (tack 3 3 later)) (plain 0)
+
+unfoldable pub disabledArea : List ℕ
+disabledArea = 0x00 ∷ 0x00 ∷ 0x03 ∷ 0xE8 ∷ replicate (39432 - 4) 0x00
+
+abbrev pub disabledYes : Row
+disabledYes = row [] (disabledBy true 1000 (tack 3 3 later)) (plain 0)
+
+-- from E4, where K's record is inactive, the tack of another key at 1600: by the default K's record stays, with the yes it is replaced
+abbrev pub otherTack : List ℕ
+otherTack = tackUnder (replicate 64 0x44) 7 7 later
+
+abbrev pub disabledKeeps : Row
+disabledKeeps = row (after e4) (disabledBy false 1600 otherTack) (plain 0)
+
+abbrev pub disabledKeepsInspected : Row
+disabledKeepsInspected = row (after disabledKeeps) (inspect false host 1600) (answerOf false 5 false 3 1000 0 (pos 0))
+
+abbrev pub yesReplaces : Row
+yesReplaces = row (after e4) (disabledBy true 1600 otherTack) (plain 0)
+
+abbrev pub yesReplacesInspected : Row
+yesReplacesInspected = row (after yesReplaces) (inspect false host 1600) (answerOf false 5 false 7 1600 0 (pos 0))
 
 abbrev pub readingExamples : List ReadingRow
 readingExamples = e1 ∷ e2 ∷ e3 ∷ []
@@ -250,6 +285,10 @@ expiredExamples =
     expiredRaises ∷ expiredRevokes ∷ expiredAllows ∷ expiredBreak ∷ expiredBreakInspected
     ∷ expiredLower ∷ expiredLowerInspected ∷ expiredUnrecorded ∷ []
 
+abbrev pub disabledExamples : List Row
+disabledExamples =
+    disabledDefault ∷ disabledYes ∷ disabledKeeps ∷ disabledKeepsInspected ∷ yesReplaces ∷ yesReplacesInspected ∷ []
+
 -- 'E1-E12 are proved together as one table under one statement'
 pub record Examples : Type 0 where
   pub readings : Every ReadingRight readingExamples
@@ -258,3 +297,6 @@ pub record Examples : Type 0 where
   pub spellings : Every Right spelledExamples
   pub expired : Every Right expiredExamples
   pub expiredBytes : areaOf false (after expiredRaises) ≡ expiredArea
+  pub disabled : Every Right disabledExamples
+  pub disabledBytes : areaOf false (after disabledDefault) ≡ disabledArea
+  pub yesBytes : areaOf false (after disabledYes) ≡ e4Area

@@ -7,7 +7,6 @@ use mathlib.Core.Option.{Option, none, some}
 use Prim.Native.Nat.{ℕ, zero, suc, _+_, _*_, _-_, _/_, _%_}
 use lib.IntN.{pos}
 use lib.ListN.{length, drop, replicate}
-use Rattle.octets.specs.Octets.{bigEndian}
 use Rattle.tack_extension_two.specs.ExtensionTwo.{PartsTwo, partsTwo, bytesOfTwo}
 use Rattle.pin_model.specs.Table.{KeyRecord, keyRecord, NameRecord, nameRecord, Table, table, settledAt, empty}
 use Rattle.pin_model.specs.Layout.{encode}
@@ -15,7 +14,7 @@ use Rattle.pin_model.specs.Connection.{connection}
 use Rattle.pin_model.specs.Calls.{Call, judgeTwo, delete, inspect, start, Answer, answerOf, judgement, plain, answered}
 use Rattle.pin_model.specs.Run.{areaOf}
 use Rattle.pin_model.specs.declared.ChecksTwo.{ChecksTwo}
-use Rattle.pin_examples.specs.Examples.{alerted, Every, host, hash, tack, later, tackAs, withTack}
+use Rattle.pin_examples.specs.Examples.{alerted, Every, host, hash, tackUnder, tack, later, tackAs, withTack}
 
 -- the calls before, the newest first, from the empty table of edition two; the call; its whole answer; the table that it leaves
 pub record RowTwo : Type 0 where
@@ -46,11 +45,7 @@ keyB = replicate 64 0x44
 abbrev pub keyC : List ℕ
 keyC = replicate 64 0x55
 
--- a tack by its key, min_generation, generation and expiration; any bytes are its signature
-abbrev pub tackUnder : List ℕ → ℕ → ℕ → ℕ → List ℕ
-tackUnder key minGeneration generation expiration =
-    key ++ minGeneration ∷ generation ∷ bigEndian 4 expiration ++ hash ++ replicate 64 0x33
-
+-- a tack of each
 abbrev pub tackA : List ℕ
 tackA = tackUnder keyA 3 3 later
 

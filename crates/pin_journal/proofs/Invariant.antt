@@ -7,7 +7,7 @@ use native.Mathlib.Omega.{arith}
 use lib.Dec.{eqb}
 use borrow.Author.Tests.{eqb-true}
 use Rattle.pin_model.specs.Table.{clockLimit, Table, empty, without}
-use Rattle.pin_model.specs.Connection.{Connection, tackShown, enabled, brokenKeys, ConnectionTwo, tacksShown}
+use Rattle.pin_model.specs.Connection.{Connection, tackShown, enabled, mayRecord, brokenKeys, ConnectionTwo, tacksShown}
 use Rattle.pin_model.specs.Judge.{raiseShown, judged}
 use Rattle.pin_model.specs.JudgeTwo.{raisedTwo, contradicted, judgedTwo}
 use Rattle.pin_model.specs.Calls.{Call, judge, judgeTwo, delete, start, isVerdict, tacksOfCall}
@@ -95,7 +95,7 @@ pub judge-invariant : (c : Connection) (t : Table) (es : List Entry) (n : ℕ) �
 unfolding journal
 judge-invariant c t es n verdict invariant facts one inOrder inLimit =
     learned-invariant (judge c) n (judged c t)
-    (unbroken (brokenKeys c) (entered (enabled c) (c .name) (c .clock) (tackShown c) (journal es))) es (rw verdict) (rw verdict)
+    (unbroken (brokenKeys c) (entered (enabled c) (mayRecord c) (c .name) (c .clock) (tackShown c) (journal es))) es (rw verdict) (rw verdict)
     (judged-learned c t (journal es) (λ k. highest k (since k es)) invariant facts one inOrder inLimit)
 
 -- 'an expired .. tack with a higher min_generation must raise the floor of a standing key record' (document 02, Q-4); no row changes

@@ -6,7 +6,7 @@ use Prim.Native.Nat.{ℕ}
 use Rattle.octets.specs.Octets.{number, numberAfter}
 use Rattle.tack_extension.specs.Extension.{parse, tackStep, breaksStep, activationStep}
 use Rattle.pin_model.specs.declared.Checks.{Checks}
-use Rattle.pin_model.specs.Connection.{Connection, connection, partsOf, tackShown, enabled, breaksShown, brokenKeys}
+use Rattle.pin_model.specs.Connection.{Connection, connection, partsOf, tackShown, enabled, mayRecord, breaksShown, brokenKeys}
 use Rattle.pin_model.specs.Judge.{judged, noRoom, verdict}
 use Rattle.pin_model.specs.Calls.{judge, refusal, answer, areaAfter}
 
@@ -23,9 +23,9 @@ module _ (clock : ℕ) (name hash : List ℕ) (checks : Checks) (bytes b : List 
   same-parts = refl
 
   pub absent-answer : answer (judge bare) b ≡ answer (judge absent) b
-  unfolding answer refusal judged noRoom verdict tackShown enabled breaksShown brokenKeys
+  unfolding answer refusal judged noRoom verdict tackShown enabled mayRecord breaksShown brokenKeys
   absent-answer = rw same-parts
 
   pub absent-area : areaAfter (judge bare) b ≡ areaAfter (judge absent) b
-  unfolding areaAfter refusal judged tackShown enabled breaksShown brokenKeys
+  unfolding areaAfter refusal judged tackShown enabled mayRecord breaksShown brokenKeys
   absent-area = rw same-parts

@@ -1,6 +1,6 @@
 -- The area's refusals and its edition's; where an extension came, the later ones, what is known where none applies, and the answer then.
 use mathlib.Core.Path.{_≡_, refl, sym, ap, ap₂, _∙_}
-use mathlib.Core.Bool.{Bool, true, false, cond, not}
+use mathlib.Core.Bool.{Bool, true, false, cond, not, _||_}
 use mathlib.Core.List.{List, [], _++_, map}
 use mathlib.Core.Option.{none, some}
 use Prim.Native.Nat.{ℕ, _≤_}
@@ -18,7 +18,7 @@ use Rattle.tack_extension.specs.declared.reader.Reading.the-variants.{WellForme
 use Rattle.pin_model.specs.Table.{clockLimit}
 use Rattle.pin_model.specs.Layout.{encode, decode}
 use Rattle.pin_model.specs.Sound.{sound}
-use Rattle.pin_model.specs.Connection.{Connection, connection, partsOf, unlessEmpty, tackShown, enabled, isEnabled, breaksShown, brokenKeys}
+use Rattle.pin_model.specs.Connection.{Connection, connection, partsOf, unlessEmpty, tackShown, enabled, isEnabled, mayRecord, breaksShown, brokenKeys}
 use Rattle.pin_model.specs.Refusals.{first, areaTests, nameTest, limitTest, handshakeTests, isNone, formTest, breaksTest, tackTests}
 use Rattle.pin_model.specs.Judge.{judged, noRoom, steps, verdict}
 use Rattle.pin_model.specs.Calls.{Answer, plain, judge, folded, tableTestsOf, refusal, answer, refusedWith, areaAfter, answered, areaLeft}
@@ -100,10 +100,10 @@ module _ (clock : ℕ) (name bytes hash : List ℕ) (checks : Checks) (b : List 
     broken = map breakKey (breakSignatures (breaksPart bytes))
 
     pub judged-so : first shown ≡ none → (x : Answer) (after : List ℕ)
-        → (x ≡ stepsAnswer (isEnabled (parse bytes)) name clock (unlessEmpty (tackPart bytes)) broken (decode b))
-        × (after ≡ encode (steps (isEnabled (parse bytes)) name clock (unlessEmpty (tackPart bytes)) broken (decode b)))
+        → (x ≡ stepsAnswer (isEnabled (parse bytes)) (isEnabled (parse bytes) || checks .«learn_disabled») name clock (unlessEmpty (tackPart bytes)) broken (decode b))
+        × (after ≡ encode (steps (isEnabled (parse bytes)) (isEnabled (parse bytes) || checks .«learn_disabled») name clock (unlessEmpty (tackPart bytes)) broken (decode b)))
         → (x ≡ answer (judge it) b) × (after ≡ areaAfter (judge it) b)
-    unfolding partsOf tackPart breaksPart judged noRoom verdict tackShown enabled breaksShown brokenKeys
+    unfolding partsOf tackPart breaksPart judged noRoom verdict tackShown enabled mayRecord breaksShown brokenKeys
     judged-so passes x after w =
         let g = call-passed (judge it) b (then ∙ passes) in
         (w .0 ∙ g .0, w .1 ∙ g .1)

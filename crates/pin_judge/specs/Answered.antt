@@ -8,6 +8,7 @@ use Rattle.pin_model.specs.Table.{Table}
 use Rattle.pin_model.specs.Judge.{noRoomIn, steps, verdictBy}
 use Rattle.pin_model.specs.Calls.{Answer, judgement}
 
-abbrev pub stepsAnswer : Bool → List ℕ → ℕ → Option (List ℕ) → List (List ℕ) → Table → Answer
-stepsAnswer enabled name clock tack broken t =
-    judgement false (verdictBy name clock tack (steps enabled name clock tack broken t)) (noRoomIn enabled name clock tack t)
+abbrev pub stepsAnswer : Bool → Bool → List ℕ → ℕ → Option (List ℕ) → List (List ℕ) → Table → Answer
+stepsAnswer enabled mayRecord name clock tack broken t =
+    let after = steps enabled mayRecord name clock tack broken t in
+    judgement false (verdictBy name clock tack after) (noRoomIn enabled mayRecord name clock tack t)

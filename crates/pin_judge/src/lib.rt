@@ -17,7 +17,7 @@ use pin_table::slots;
 use tack_extension::reader;
 use tack_extension::reader::Reading;
 ghost use mathlib.Core.Path.{_≡_};
-ghost use mathlib.Core.Bool.{true, false};
+ghost use mathlib.Core.Bool.{true, false, _||_};
 ghost use mathlib.Core.List.{map};
 ghost use Prim.Native.Nat.{_≤_};
 ghost use lib.ListN.{length};
@@ -35,9 +35,16 @@ ghost use Rattle.pin_judge.specs.Known.{Admitted, InOrder};
 ghost use Rattle.pin_judge.specs.Answered.{stepsAnswer};
 
 // Steps 1 and 2. The answer is 'no room'.
-fn learn(area: &mut [u8], name: &[u8], clock: Minutes, tack: &[u8], enabled: bool) -> bool
+fn learn(
+    area: &mut [u8],
+    name: &[u8],
+    clock: Minutes,
+    tack: &[u8],
+    enabled: bool,
+    learn_disabled: bool,
+) -> bool
     requires { ⌜ InOrder (now area) (now name) (clock .0) × (tackLength (length (now tack)) ≡ true) ⌝ }
-    ensures { λ r. ⌜ (r ≡ noRoomIn enabled (now (name .entry)) (clock .0) (unlessEmpty (now (tack .entry))) (decode (now (area .entry)))) × Holds (now (area .exit)) (learn enabled (now (name .entry)) (clock .0) (unlessEmpty (now (tack .entry))) (decode (now (area .entry)))) ⌝ }
+    ensures { λ r. ⌜ (r ≡ noRoomIn enabled (enabled || «learn_disabled») (now (name .entry)) (clock .0) (unlessEmpty (now (tack .entry))) (decode (now (area .entry)))) × Holds (now (area .exit)) (learn enabled (enabled || «learn_disabled») (now (name .entry)) (clock .0) (unlessEmpty (now (tack .entry))) (decode (now (area .entry)))) ⌝ }
 {
     if tack.len() == 0 {
         return false;
@@ -45,9 +52,9 @@ fn learn(area: &mut [u8], name: &[u8], clock: Minutes, tack: &[u8], enabled: boo
     raise::raise_floor(area, tack);
     if enabled {
         extend::extend_pin(area, name, tack, clock);
-        return create::create_record(area, name, tack, clock);
+        return create::create_record(area, name, tack, clock, true);
     }
-    create::create_record(area, name, tack, clock)
+    create::create_record(area, name, tack, clock, learn_disabled)
 }
 
 // Steps 1 to 4, where nothing refuses.
@@ -58,11 +65,12 @@ fn apply(
     tack: &[u8],
     broken: &[u8],
     enabled: bool,
+    learn_disabled: bool,
 ) -> Judgement
     requires { ⌜ InOrder (now area) (now name) (clock .0) × (tackLength (length (now tack)) ≡ true) × (breaksLength (length (now broken)) ≡ true) ⌝ }
-    ensures { λ r. ⌜ (judgementAnswer r ≡ stepsAnswer enabled (now (name .entry)) (clock .0) (unlessEmpty (now (tack .entry))) (map breakKey (breakSignatures (now (broken .entry)))) (decode (now (area .entry)))) × (now (area .exit) ≡ encode (steps enabled (now (name .entry)) (clock .0) (unlessEmpty (now (tack .entry))) (map breakKey (breakSignatures (now (broken .entry)))) (decode (now (area .entry))))) ⌝ }
+    ensures { λ r. ⌜ (judgementAnswer r ≡ stepsAnswer enabled (enabled || «learn_disabled») (now (name .entry)) (clock .0) (unlessEmpty (now (tack .entry))) (map breakKey (breakSignatures (now (broken .entry)))) (decode (now (area .entry)))) × (now (area .exit) ≡ encode (steps enabled (enabled || «learn_disabled») (now (name .entry)) (clock .0) (unlessEmpty (now (tack .entry))) (map breakKey (breakSignatures (now (broken .entry)))) (decode (now (area .entry))))) ⌝ }
 {
-    let no_room = learn(area, name, clock, tack, enabled);
+    let no_room = learn(area, name, clock, tack, enabled, learn_disabled);
     breaks::break_keys(area, broken);
     store::store_latest(area, clock);
     Judgement::Judged {
@@ -72,9 +80,15 @@ fn apply(
 }
 
 // The steps on the parts of an extension that is known to be well-formed: what is read anew is its activation.
-fn apply_shown(area: &mut [u8], name: &[u8], clock: Minutes, extension: &[u8]) -> Judgement
+fn apply_shown(
+    area: &mut [u8],
+    name: &[u8],
+    clock: Minutes,
+    extension: &[u8],
+    learn_disabled: bool,
+) -> Judgement
     requires { ⌜ InOrder (now area) (now name) (clock .0) × (isNone (parse (now extension)) ≡ false) ⌝ }
-    ensures { λ r. ⌜ (judgementAnswer r ≡ stepsAnswer (isEnabled (parse (now (extension .entry)))) (now (name .entry)) (clock .0) (unlessEmpty (tackPart (now (extension .entry)))) (map breakKey (breakSignatures (breaksPart (now (extension .entry))))) (decode (now (area .entry)))) × (now (area .exit) ≡ encode (steps (isEnabled (parse (now (extension .entry)))) (now (name .entry)) (clock .0) (unlessEmpty (tackPart (now (extension .entry)))) (map breakKey (breakSignatures (breaksPart (now (extension .entry))))) (decode (now (area .entry))))) ⌝ }
+    ensures { λ r. ⌜ (judgementAnswer r ≡ stepsAnswer (isEnabled (parse (now (extension .entry)))) (isEnabled (parse (now (extension .entry))) || «learn_disabled») (now (name .entry)) (clock .0) (unlessEmpty (tackPart (now (extension .entry)))) (map breakKey (breakSignatures (breaksPart (now (extension .entry))))) (decode (now (area .entry)))) × (now (area .exit) ≡ encode (steps (isEnabled (parse (now (extension .entry)))) (isEnabled (parse (now (extension .entry))) || «learn_disabled») (now (name .entry)) (clock .0) (unlessEmpty (tackPart (now (extension .entry)))) (map breakKey (breakSignatures (breaksPart (now (extension .entry))))) (decode (now (area .entry))))) ⌝ }
 {
     let Reading::WellFormed { activation } = reader::read(extension) else {
         return Judgement::Refused(Refusal::ExtensionMalformed);
@@ -86,6 +100,7 @@ fn apply_shown(area: &mut [u8], name: &[u8], clock: Minutes, extension: &[u8]) -
         reader::tack_part(extension),
         reader::breaks_part(extension),
         activation == 1,
+        learn_disabled,
     )
 }
 
@@ -124,7 +139,7 @@ fn judge_at(
     ) {
         return refuse(area, extension, refusal);
     }
-    apply_shown(area, name, clock, extension)
+    apply_shown(area, name, clock, extension, checks.learn_disabled)
 }
 
 // A connection with this extension, on a sound area of edition one.

@@ -45,7 +45,7 @@ module _ (call : Call) (b : List ℕ) where
   answer-numbered = numbered-by (refusal call b) refl
 
   -- a number from 10 on is a refusal's
-  was-refused : isRefusal (answer call b .number) ≡ true → refusal call b ≡ some (answer call b .number)
+  pub was-refused : isRefusal (answer call b .number) ≡ true → refusal call b ≡ some (answer call b .number)
   unfolding answer
   was-refused h = go (refusal call b) h
     where

@@ -73,7 +73,7 @@ module _ {A : Type 0} where
       go false true k ih = omega arith
       go false false k ih = omega arith
 
-  any-implied : (p q : A → Bool) → ((x : A) → p x ≡ true → q x ≡ true) → (l : List A) → any p l ≡ true → any q l ≡ true
+  pub any-implied : (p q : A → Bool) → ((x : A) → p x ≡ true → q x ≡ true) → (l : List A) → any p l ≡ true → any q l ≡ true
   any-implied p q h l e = some-count q l (omega (arith, count-some p l e, count-implied p q h l))
 
   pub none-implied : (p q : A → Bool) → ((x : A) → p x ≡ true → q x ≡ true) → (l : List A) → any q l ≡ false → any p l ≡ false

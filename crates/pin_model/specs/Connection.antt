@@ -1,5 +1,6 @@
--- One finished connection of either edition, and what it shows. Document 01, 'Judging one connection', and document 02, Q-2 and Q-3.
-use mathlib.Core.Bool.{Bool, false, cond, _&&_}
+-- One finished connection of either edition, and what it shows. Document 01, 'Judging one connection', and document 02, Q-2, Q-3 and
+-- Q-7.
+use mathlib.Core.Bool.{Bool, false, cond, _&&_, _||_}
 use mathlib.Core.List.{List, [], _∷_, _++_, map}
 use mathlib.Core.Option.{Option, none, some}
 use Prim.Native.Nat.{ℕ}
@@ -32,9 +33,15 @@ abbrev pub connection : {A : Type 0} → ℕ → List ℕ → Bool → List ℕ 
 connection clock name came bytes hash checks =
     record { clock = clock; name = name; extensionCame = came; extension = bytes; hash = hash; checks = checks }
 
-abbrev pub checksBy : Bool → Bool → Bool → ℕ → Checks
-checksBy finished point correct breaks =
-    record { «handshake_finished» = finished; «key_is_point» = point; «signature_correct» = correct; «breaks_correct» = breaks }
+abbrev pub checksBy : Bool → Bool → Bool → ℕ → Bool → Checks
+checksBy finished point correct breaks learnDisabled =
+    record {
+      «handshake_finished» = finished;
+      «key_is_point» = point;
+      «signature_correct» = correct;
+      «breaks_correct» = breaks;
+      «learn_disabled» = learnDisabled;
+    }
 
 -- the connection under another name, and under its folded one (document 02, Q-2)
 abbrev pub named : {A : Type 0} → List ℕ → ConnectionWith A → ConnectionWith A
@@ -66,6 +73,10 @@ isEnabled (some p) = eqb (p .activation) 1
 
 unfoldable pub enabled : Connection → Bool
 enabled c = isEnabled (partsOf c)
+
+-- 'edition one makes a record only if activation is 1', or if the call asks 'for the old way by an explicit yes' (document 02, Q-7)
+unfoldable pub mayRecord : Connection → Bool
+mayRecord c = enabled c || c .checks .«learn_disabled»
 
 -- the break signatures, and the keys that they name
 unfoldable pub breaksShown : Connection → List (List ℕ)

@@ -14,8 +14,9 @@ use Rattle.octets.specs.Octets.{Bytes, part, number, bigEndian}
 use Rattle.octets.proofs.Numbers.{bytes-front, bytes-behind, number-bigEndian, bigEndian-number, bigEndian-two, bigEndian-length, number-four}
 use Rattle.host_name.specs.Folding.{foldedName}
 use Rattle.pin_model.specs.declared.Checks.{Checks}
-use Rattle.pin_model.specs.Connection.{Connection, connection, checksBy, partsOf, tackShown, enabled, breaksShown, brokenKeys}
+use Rattle.pin_model.specs.Connection.{Connection, connection, checksBy, partsOf, tackShown, enabled, mayRecord, breaksShown, brokenKeys}
 use Rattle.pin_model.specs.Judge.{judged, noRoom, verdict}
+use Rattle.pin_model.specs.Disabled.{choosing, withChoice}
 use Rattle.pin_model.specs.Calls.{judge, refusal, answer, areaAfter, answered, areaLeft}
 use Rattle.recorded_call.specs.RecordedCall.{Front, taken, andThen, field, answersField, extensionField, checksOf, called, recorded, fieldBytes, answerByte, extensionBytes, callBytes, recordable}
 use Rattle.recorded_call.proofs.Bytes.{field-length, sizes}
@@ -43,8 +44,8 @@ abbrev answersOf : Checks → List ℕ
 answersOf checks = answerByte checks ∷ checks .«breaks_correct» ∷ []
 
 bits-back : (finished point correct : Bool) (bits : ℕ)
-    → (checksOf (answersOf (checksBy finished point correct bits)) ≡ checksBy finished point correct bits)
-    × (ltb (answerByte (checksBy finished point correct bits)) 8 ≡ true)
+    → (checksOf (answersOf (checksBy finished point correct bits true)) ≡ checksBy finished point correct bits true)
+    × (ltb (answerByte (checksBy finished point correct bits true)) 8 ≡ true)
 bits-back true true true bits = (refl, refl)
 bits-back true true false bits = (refl, refl)
 bits-back true false true bits = (refl, refl)
@@ -54,7 +55,8 @@ bits-back false true false bits = (refl, refl)
 bits-back false false true bits = (refl, refl)
 bits-back false false false bits = (refl, refl)
 
-checks-back : (checks : Checks) → (checksOf (answersOf checks) ≡ checks) × (ltb (answerByte checks) 8 ≡ true)
+-- a recording keeps every answer but the choice of document 02, Q-7: there it is a yes
+checks-back : (checks : Checks) → (checksOf (answersOf checks) ≡ choosing true checks) × (ltb (answerByte checks) 8 ≡ true)
 checks-back checks = bits-back (checks .«handshake_finished») (checks .«key_is_point») (checks .«signature_correct») (checks .«breaks_correct»)
 
 -- what comes second, once what comes first is taken
@@ -83,7 +85,7 @@ extension-back false e rest h = refl
 -- the connection as a recording tells it: 'If no extension came, its bytes are ignored'
 abbrev pub asRecorded : Connection → Connection
 asRecorded c =
-    connection (c .clock) (c .name) (c .extensionCame) (cond (c .extensionCame) (c .extension) []) (c .hash) (c .checks)
+    connection (c .clock) (c .name) (c .extensionCame) (cond (c .extensionCame) (c .extension) []) (c .hash) (choosing true (c .checks))
 
 called-recorded : (clock name answers hash : List ℕ) (came : Bool) (e : List ℕ)
     → called clock name answers hash (sent came e)
@@ -130,16 +132,18 @@ reads-back c rest h =
     (ap (λ (k : Connection). taken k rest)
     (called-recorded clock (c .name) answers (c .hash) (c .extensionCame) (c .extension) ∙ rw (same, checks-back (c .checks) .0) refl)))))))
 
--- what is recorded is judged as the connection itself would be: an extension that did not come has no parts, whatever its bytes
+-- what is recorded is judged as the connection itself would be with the yes: an extension that did not come has no parts, whatever its
+-- bytes
 recorded-by : (clock : ℕ) (name : List ℕ) (came : Bool) (extension hash : List ℕ) (checks : Checks) (area : List ℕ)
-    → let c = connection clock name came extension hash checks in
+    → let c = connection clock name came extension hash (choosing true checks) in
     (answer (judge (asRecorded c)) area ≡ answer (judge c) area) × (areaAfter (judge (asRecorded c)) area ≡ areaAfter (judge c) area)
-unfolding answer areaAfter refusal judged noRoom verdict tackShown enabled breaksShown brokenKeys partsOf
+unfolding answer areaAfter refusal judged noRoom verdict tackShown enabled mayRecord breaksShown brokenKeys partsOf
 recorded-by clock name true extension hash checks area = (refl, refl)
 recorded-by clock name false extension hash checks area = (refl, refl)
 
 pub recorded-same : (c : Connection) (area : List ℕ)
-    → (answered (judge (asRecorded c)) area ≡ answered (judge c) area) × (areaLeft (judge (asRecorded c)) area ≡ areaLeft (judge c) area)
+    → (answered (judge (asRecorded c)) area ≡ answered (judge (withChoice true c)) area)
+    × (areaLeft (judge (asRecorded c)) area ≡ areaLeft (judge (withChoice true c)) area)
 unfolding answered areaLeft
 recorded-same c area =
     recorded-by (c .clock) (foldedName (c .name)) (c .extensionCame) (c .extension) (c .hash) (c .checks) area

@@ -1,4 +1,4 @@
--- One recorded call in front of a night's bytes, read and written, by document 02, Q-1.
+-- One recorded call in front of a night's bytes, read and written, by document 02, Q-1 and Q-7.
 use Prim.Native.Nat.{ℕ, _+_, _/_, _%_}
 use mathlib.Core.Bool.{Bool, true, false, cond, not, _&&_, _||_}
 use mathlib.Core.List.{List, [], _∷_, _++_}
@@ -43,12 +43,13 @@ abbrev pub extensionField : List ℕ → Front (Option (List ℕ))
 extensionField s =
     cond (tagged 5 s) (andThen (field 5 0 4096 s) (λ extension rest. taken (some extension) rest)) (taken none s)
 
--- the connection of these fields; a bit that is set in the answers' first byte is a yes: the powers 1, 2, 4 are the bits 0, 1, 2
+-- the connection of these fields; a bit that is set in the answers' first byte is a yes: the powers 1, 2, 4 are the bits 0, 1, 2.
+-- A replay asks 'for the old way by an explicit yes in each call' (Q-7), which is recorded nowhere.
 abbrev pub yes : ℕ → List ℕ → Bool
 yes power answers = eqb (getD answers 0 0 / power % 2) 1
 
 abbrev pub checksOf : List ℕ → Checks
-checksOf answers = checksBy (yes 1 answers) (yes 2 answers) (yes 4 answers) (getD answers 1 0)
+checksOf answers = checksBy (yes 1 answers) (yes 2 answers) (yes 4 answers) (getD answers 1 0) true
 
 abbrev pub called : List ℕ → List ℕ → List ℕ → List ℕ → Option (List ℕ) → Connection
 called clock name answers hash none = connection (number clock) name false [] hash (checksOf answers)

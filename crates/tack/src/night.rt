@@ -1,8 +1,9 @@
-// A call written as a gateway records it.
+// A call written as a gateway records it. A recording has no place for `learn_disabled`, and a night is played with that yes.
 use crate::extension;
 use crate::extension::WritingAnswer;
 use pin_model::Checks;
 ghost use mathlib.Core.Path.{_≡_};
+ghost use mathlib.Core.Bool.{true};
 ghost use Rattle.tack_extension.specs.Answers.{writing, output};
 ghost use Rattle.pin_model.specs.Connection.{connection, checksBy};
 ghost use Rattle.recorded_call.specs.RecordedCall.{callBytes, recordable};
@@ -21,8 +22,8 @@ pub extern "C" fn tack_call_write(
     breaks_correct: u8,
     out: &mut [u8],
 ) -> WritingAnswer
-    ensures answer { λ r. ⌜ r ≡ writingAnswer (writing (recordable (connection clock (now (name .entry)) «extension_came» (now (extension .entry)) (now («spki_sha256» .entry)) (checksBy «handshake_finished» «key_is_point» «signature_correct» «breaks_correct»))) (callBytes (connection clock (now (name .entry)) «extension_came» (now (extension .entry)) (now («spki_sha256» .entry)) (checksBy «handshake_finished» «key_is_point» «signature_correct» «breaks_correct»))) (now (out .entry))) ⌝ }
-    ensures written { λ _. ⌜ now (out .exit) ≡ output (recordable (connection clock (now (name .entry)) «extension_came» (now (extension .entry)) (now («spki_sha256» .entry)) (checksBy «handshake_finished» «key_is_point» «signature_correct» «breaks_correct»))) (callBytes (connection clock (now (name .entry)) «extension_came» (now (extension .entry)) (now («spki_sha256» .entry)) (checksBy «handshake_finished» «key_is_point» «signature_correct» «breaks_correct»))) (now (out .entry)) ⌝ }
+    ensures answer { λ r. ⌜ r ≡ writingAnswer (writing (recordable (connection clock (now (name .entry)) «extension_came» (now (extension .entry)) (now («spki_sha256» .entry)) (checksBy «handshake_finished» «key_is_point» «signature_correct» «breaks_correct» true))) (callBytes (connection clock (now (name .entry)) «extension_came» (now (extension .entry)) (now («spki_sha256» .entry)) (checksBy «handshake_finished» «key_is_point» «signature_correct» «breaks_correct» true))) (now (out .entry))) ⌝ }
+    ensures written { λ _. ⌜ now (out .exit) ≡ output (recordable (connection clock (now (name .entry)) «extension_came» (now (extension .entry)) (now («spki_sha256» .entry)) (checksBy «handshake_finished» «key_is_point» «signature_correct» «breaks_correct» true))) (callBytes (connection clock (now (name .entry)) «extension_came» (now (extension .entry)) (now («spki_sha256» .entry)) (checksBy «handshake_finished» «key_is_point» «signature_correct» «breaks_correct» true))) (now (out .entry)) ⌝ }
 {
     extension::writing_answer(call_writer::write_call(
         clock,
@@ -35,6 +36,7 @@ pub extern "C" fn tack_call_write(
             key_is_point,
             signature_correct,
             breaks_correct,
+            learn_disabled: true,
         },
         out,
     ))

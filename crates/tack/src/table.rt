@@ -48,9 +48,10 @@ pub extern "C" fn tack_judge(
     key_is_point: bool,
     signature_correct: bool,
     breaks_correct: u8,
+    learn_disabled: bool,
 ) -> JudgementAnswer
-    ensures answer { λ r. ⌜ r ≡ judgementOf (calls.answered (calls.judge (connection clock (now (name .entry)) «extension_came» (now (extension .entry)) (now («spki_sha256» .entry)) (checksBy «handshake_finished» «key_is_point» «signature_correct» «breaks_correct»))) (now (table .entry))) ⌝ }
-    ensures table { λ _. ⌜ now (table .exit) ≡ calls.areaLeft (calls.judge (connection clock (now (name .entry)) «extension_came» (now (extension .entry)) (now («spki_sha256» .entry)) (checksBy «handshake_finished» «key_is_point» «signature_correct» «breaks_correct»))) (now (table .entry)) ⌝ }
+    ensures answer { λ r. ⌜ r ≡ judgementOf (calls.answered (calls.judge (connection clock (now (name .entry)) «extension_came» (now (extension .entry)) (now («spki_sha256» .entry)) (checksBy «handshake_finished» «key_is_point» «signature_correct» «breaks_correct» «learn_disabled»))) (now (table .entry))) ⌝ }
+    ensures table { λ _. ⌜ now (table .exit) ≡ calls.areaLeft (calls.judge (connection clock (now (name .entry)) «extension_came» (now (extension .entry)) (now («spki_sha256» .entry)) (checksBy «handshake_finished» «key_is_point» «signature_correct» «breaks_correct» «learn_disabled»))) (now (table .entry)) ⌝ }
 {
     match pin_judge::judge(
         table,
@@ -64,6 +65,7 @@ pub extern "C" fn tack_judge(
             key_is_point,
             signature_correct,
             breaks_correct,
+            learn_disabled,
         },
     ) {
         Judgement::Judged { verdict, no_room } => {

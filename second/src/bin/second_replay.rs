@@ -1,4 +1,5 @@
-//! Replays a recorded night from standard input to standard output.
+//! Replays a recorded night from standard input to standard output. Its calls
+//! learn from disabled servers, which is the old way.
 //!
 //! With the argument `tally` it also writes the tally to standard error.
 

@@ -43,6 +43,11 @@ pub fn showing(key: [u8; 64]) -> Vec<u8> {
     extension(&tack(key, 3, 3, u32::MAX), &[], 1)
 }
 
+/// The same tack, disabled.
+pub fn showing_disabled(key: [u8; 64]) -> Vec<u8> {
+    extension(&tack(key, 3, 3, u32::MAX), &[], 0)
+}
+
 pub fn breaking(keys: &[[u8; 64]]) -> Vec<u8> {
     let breaks: Vec<u8> = keys.iter().flat_map(|key| break_signature(*key)).collect();
     extension(&[], &breaks, 0)
@@ -56,7 +61,8 @@ pub fn field(tag: u8, value: &[u8]) -> Vec<u8> {
     bytes
 }
 
-/// The arguments of one call of the judge; at first every check passes.
+/// The arguments of one call of the judge; at first every check passes, and the
+/// old way is not asked for.
 #[derive(Clone)]
 pub struct Call {
     pub clock: u64,
@@ -67,6 +73,7 @@ pub struct Call {
     pub key_is_point: bool,
     pub signature_correct: bool,
     pub breaks_correct: u8,
+    pub learn_disabled: bool,
 }
 
 impl Call {
@@ -80,12 +87,27 @@ impl Call {
             key_is_point: true,
             signature_correct: true,
             breaks_correct: 0xFF,
+            learn_disabled: false,
         }
     }
 
     pub fn with(mut self, extension: Vec<u8>) -> Call {
         self.extension = Some(extension);
         self
+    }
+
+    /// With the explicit yes.
+    pub fn in_the_old_way(mut self) -> Call {
+        self.learn_disabled = true;
+        self
+    }
+
+    /// By the default and in the old way.
+    pub fn in_both_ways(&self) -> [Call; 2] {
+        [false, true].map(|learn_disabled| Call {
+            learn_disabled,
+            ..self.clone()
+        })
     }
 
     pub fn connection(&self) -> Connection<'_> {
@@ -98,6 +120,7 @@ impl Call {
             key_is_point: self.key_is_point,
             signature_correct: self.signature_correct,
             breaks_correct: self.breaks_correct,
+            learn_disabled: self.learn_disabled,
         }
     }
 
@@ -105,7 +128,8 @@ impl Call {
         judge(area, &self.connection())
     }
 
-    /// The fields of the recorded call, the end among them.
+    /// The fields of the recorded call, the end among them. None says whether
+    /// the call asks for the old way.
     pub fn fields(&self) -> Vec<Vec<u8>> {
         let answers = u8::from(self.handshake_finished)
             + 2 * u8::from(self.key_is_point)
@@ -130,17 +154,19 @@ impl Call {
         self.judge(area).number
     }
 
-    /// Asserts a refusal: its number, its alert, an untouched area.
+    /// Asserts a refusal in both ways: its number, its alert, an untouched area.
     #[track_caller]
     pub fn is_refused(&self, area: &[u8], number: u8, alert: u8) {
-        let mut after = area.to_vec();
         let expected = Judgement {
             number,
             alert,
             no_room: false,
         };
-        assert_eq!(self.judge(&mut after), expected);
-        assert!(after == area, "a refusal changed the area");
+        for call in self.in_both_ways() {
+            let mut after = area.to_vec();
+            assert_eq!(call.judge(&mut after), expected);
+            assert!(after == area, "a refusal changed the area");
+        }
     }
 }
 

@@ -38,10 +38,17 @@ fn call(clock: u64, name: &str, key: [u8; 64], min_generation: u8, generation: u
     Call::at(clock, name).with(extension(&tack, &[], 1))
 }
 
-/// Asserts an answer and the whole table after it, lent as an area and kept
-/// parsed.
+/// Asserts a refusal in both ways and the whole table after it.
 #[track_caller]
 fn answers(call: &Call, before: &[u8], number: u8, alert: u8, expected: &[u8]) {
+    for call in call.in_both_ways() {
+        answers_in_one_way(&call, before, number, alert, expected);
+    }
+}
+
+/// The table is lent as an area and kept parsed.
+#[track_caller]
+fn answers_in_one_way(call: &Call, before: &[u8], number: u8, alert: u8, expected: &[u8]) {
     let judgement = Judgement {
         number,
         alert,

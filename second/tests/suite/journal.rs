@@ -2,7 +2,8 @@
 //!
 //! Row for row the journal and the table must agree, and so must "no room".
 //! The journal reads every name folded; the calls have any spelling. It also
-//! keeps the floors, which calls answered 23 raise as well as verdicts.
+//! keeps the floors, which calls answered 23 raise as well as verdicts. Each call
+//! is by the default or in the old way, "changed freely between calls".
 
 use std::collections::{HashMap, HashSet};
 
@@ -32,12 +33,14 @@ struct Journal {
     floors: HashMap<u8, u8>,
 }
 
-/// What one call showed: the key and min_generation of its tack.
+/// What one call showed: the key and min_generation of its tack; and whether it
+/// asked for the old way.
 struct Shown {
     key: u8,
     min_generation: u8,
     activation: bool,
     expired: bool,
+    learn_disabled: bool,
 }
 
 impl Journal {
@@ -67,6 +70,9 @@ impl Journal {
             if row.end().is_some_and(|end| clock < end) {
                 return false;
             }
+        }
+        if !shown.activation && !shown.learn_disabled {
+            return false;
         }
         if !self.has_room(name, shown.key) {
             return true;
@@ -163,18 +169,21 @@ fn judge_both(
     clock: u64,
     name: &str,
 ) -> bool {
+    let learn_disabled = random.below(2) == 1;
     let shown = (random.below(8) != 0).then(|| Shown {
         key: random.below(mix.keys) as u8,
         min_generation: random.below(4) as u8,
         activation: random.below(2) == 1,
         expired: random.below(6) == 0,
+        learn_disabled,
     });
     let mut broken = Vec::new();
     while random.below(mix.one_break_in) == 0 && broken.len() < 8 {
         broken.push(random.below(mix.keys) as u8);
     }
     let bytes = extension_of(shown.as_ref(), &broken);
-    let call = Call::at(clock, name).with(bytes);
+    let mut call = Call::at(clock, name).with(bytes);
+    call.learn_disabled = learn_disabled;
     let latest_before = latest(area);
     let judgement = respelled(random, &call).judge(area);
     if let Some(shown) = shown.as_ref().filter(|shown| shown.expired) {

@@ -3,6 +3,7 @@
 mod calls;
 mod calls_two;
 mod capitals;
+mod disabled;
 mod examples;
 mod expired;
 mod extension;

@@ -247,9 +247,10 @@ fn clocks_of_32_bits() {
 }
 
 /// A call that meets many of the rules, good or refused; its name has no
-/// capitals.
+/// capitals. It asks for the old way, as a recorded call does when it is read.
 fn any_call(random: &mut Random, clock: u64) -> Call {
-    let mut call = Call::at(clock, &format!("host{}", random.below(140)));
+    let name = format!("host{}", random.below(140));
+    let mut call = Call::at(clock, &name).in_the_old_way();
     if random.below(30) == 0 {
         // Often too long for a label.
         call.name = vec![b'a'; random.below(301) as usize];
@@ -457,12 +458,45 @@ fn the_writer_goes_round() {
     }
     assert!(night == night_of(&calls));
     let mut rest = night.as_slice();
-    for call in &calls {
+    for call in calls {
         let (read, after) = read_call(rest).unwrap();
-        assert_eq!(read, call.connection());
+        // Whatever the call asked for when it was written.
+        assert_eq!(read, call.in_the_old_way().connection());
         rest = after;
     }
     assert!(rest.is_empty());
+}
+
+/// Both ways have one recorded form, which is read as the old way.
+#[test]
+fn the_choice_is_not_recorded() {
+    for call in [e4(), Call::at(1000, "a.b").with(showing_disabled(K))] {
+        for written in call.in_both_ways() {
+            let mut night = Vec::new();
+            assert_eq!(write_call(&written.connection(), &mut night), Ok(()));
+            assert!(night == call.recorded());
+            assert!(read_call(&night).unwrap().0.learn_disabled);
+        }
+    }
+}
+
+/// The first call makes a record; by the default the second would, and it would
+/// not be confirmed.
+#[test]
+fn a_night_learns_from_disabled_servers() {
+    let disabled = Call::at(1000, "a.b").with(showing_disabled(K));
+    let night = night_of(&[disabled, e5()]);
+    reports(&night, "0 0 0 0\n1 1 0 0\ntotal 2\n");
+}
+
+#[test]
+fn a_night_of_disabled_servers_finds_no_room() {
+    let names = (0..129).map(|number| format!("host{number}"));
+    let calls: Vec<Call> = names
+        .map(|name| Call::at(1000, &name).with(showing_disabled(K)))
+        .collect();
+    let text = String::from_utf8(report(&night_of(&calls))).unwrap();
+    assert!(text.ends_with("127 0 0 0\n128 0 0 1\ntotal 129\n"));
 }
 
 #[test]

@@ -43,6 +43,7 @@ fn worst_call() -> Call {
         key_is_point: false,
         signature_correct: false,
         breaks_correct: 0b1111_1101,
+        learn_disabled: false,
     }
 }
 

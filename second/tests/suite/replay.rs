@@ -5,6 +5,7 @@ use std::io::Write;
 use std::process::{Child, Command, Output, Stdio};
 use std::thread;
 
+use crate::calls::{showing_disabled, Call};
 use crate::capitals::respelled_night;
 use crate::night::{any_night, e4, e5, expected, night_of};
 
@@ -44,6 +45,13 @@ fn reports_and_tallies() {
     writes(run(&[], night.clone()), 0, report, "");
     writes(run(&["tally"], night), 0, report, "0 1\n1 1\n");
     writes(run(&["tally"], Vec::new()), 0, "total 0\n", "");
+}
+
+#[test]
+fn learns_from_disabled_servers() {
+    let disabled = Call::at(1000, "a.b").with(showing_disabled([0x11; 64]));
+    let report = "0 0 0 0\n1 1 0 0\ntotal 2\n";
+    writes(run(&[], night_of(&[disabled, e5()])), 0, report, "");
 }
 
 #[test]

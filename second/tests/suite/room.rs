@@ -4,18 +4,18 @@ use second::{delete, is_sound, Judgement};
 
 use crate::calls::*;
 
-const NO_ROOM: Judgement = Judgement {
+pub const NO_ROOM: Judgement = Judgement {
     number: 0,
     alert: 0,
     no_room: true,
 };
 
-fn host(number: usize) -> String {
+pub fn host(number: usize) -> String {
     format!("host{number}")
 }
 
 /// `names` names; name i stands on key i modulo `keys`.
-fn filled(names: usize, keys: usize) -> Area {
+pub fn filled(names: usize, keys: usize) -> Area {
     let mut area = empty_area();
     for number in 0..names {
         let key = key((number % keys) as u8);

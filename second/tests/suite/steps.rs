@@ -1,4 +1,4 @@
-//! The steps of judging, apart from room.
+//! The steps of judging, apart from room and from disabled servers.
 
 use second::is_sound;
 use second::minutes::Minutes;
@@ -16,28 +16,14 @@ fn active() -> Area {
     area
 }
 
-fn disabled(key: [u8; 64]) -> Vec<u8> {
-    extension(&tack(key, 3, 3, u32::MAX), &[], 0)
-}
-
-#[test]
-fn creation_does_not_look_at_activation() {
-    let mut enabled_area = empty_area();
-    let mut disabled_area = empty_area();
-    let call = Call::at(1000, "a.b");
-    call.clone().with(showing(K)).judge(&mut enabled_area);
-    call.with(disabled(K)).judge(&mut disabled_area);
-    assert!(enabled_area == disabled_area);
-}
-
 #[test]
 fn disabled_activation_leaves_the_end() {
     let mut area = active();
     let record = name_slot(&area, 0).to_vec();
-    let call = Call::at(2000, "a.b").with(disabled(K));
+    let call = Call::at(2000, "a.b").with(showing_disabled(K));
     assert_eq!(call.number(&mut area), 1);
     assert_eq!(name_slot(&area, 0), record);
-    let call = Call::at(2200, "a.b").with(disabled(K));
+    let call = Call::at(2200, "a.b").with(showing_disabled(K));
     assert_eq!(call.number(&mut area), 0);
     assert_eq!(name_slot(&area, 0), record);
 }
@@ -107,7 +93,7 @@ fn the_floor_rises_and_never_falls() {
 #[test]
 fn a_new_name_takes_the_floor_of_its_recorded_key() {
     let mut area = active();
-    let lower = extension(&tack(K, 1, 3, u32::MAX), &[], 0);
+    let lower = extension(&tack(K, 1, 3, u32::MAX), &[], 1);
     Call::at(1700, "other").with(lower).judge(&mut area);
     assert_eq!(key_slot(&area, 0)[1], 3);
     assert_eq!(name_slot(&area, 1)[..2], [1, 0]);

@@ -17,7 +17,7 @@ pub struct Connection<'a> {
     pub extension: Option<&'a [u8]>,
     /// The SHA-256 of the server's SubjectPublicKeyInfo. One that is not 32 bytes long is unequal to every target hash.
     pub spki_sha256: &'a [u8],
-    /// What the caller has verified.
+    /// What the caller has verified, and whether a disabled server gets a pin.
     pub checks: Checks,
 }
 
@@ -117,6 +117,7 @@ impl<'a> Connection<'a> {
             key_is_point: self.checks.key_is_point,
             signature_correct: self.checks.signature_correct,
             breaks_correct: self.checks.breaks_correct,
+            learn_disabled: self.checks.learn_disabled,
         }
     }
 }

@@ -1,4 +1,5 @@
 -- One step after the other.
+use mathlib.Core.Bool.{_||_}
 use borrow.Author.Needs.{needs}
 use Rattle.pin_model.specs.Layout.{decode}
 use Rattle.pin_records.proofs.HeldSlots.{holds-stored}
@@ -21,7 +22,7 @@ verdict-for-requires c κs =
     let a = s .args in (
       holds-stored (c .before .before .before .store-latest .ensures),
       s .pre .1,
-      still-one (a .enabled) (a .name .now) (a .clock .0) (a .tack .now) (a .broken .now) (decode (a .area .now))
+      still-one (a .enabled) (a .enabled || a .learn-disabled) (a .name .now) (a .clock .0) (a .tack .now) (a .broken .now) (decode (a .area .now))
           (c .before .before .before .before .before .before .before .before .before .before .before .learn .ensures) (c .before .before .before .before .before .before .before .break-keys .ensures) (c .before .before .before .store-latest .ensures) (s .pre .0 .admitted .ofOne),
     )
 
@@ -31,7 +32,7 @@ same-length c = search needs
 returns : tie.Need-returns
 returns c =
     let a = c .before .before .before .before .before .before .before .before .before .before .before .before .before .before .before .before .before .before .args in
-    applied (a .enabled) (a .name .now) (a .clock .0) (a .tack .now) (a .broken .now) (decode (a .area .now))
+    applied (a .enabled) (a .enabled || a .learn-disabled) (a .name .now) (a .clock .0) (a .tack .now) (a .broken .now) (decode (a .area .now))
     (c .before .before .before .before .before .before .before .before .before .before .before .before .learn .ensures) (c .before .before .before .before .before .before .before .before .break-keys .ensures) (c .before .before .before .before .store-latest .ensures) _ (c .verdict-for .ensures)
 
 pub apply-spec : {M : Type 1} → statement M

@@ -1,6 +1,6 @@
 -- The parts that the reader gives are the extension's.
 use mathlib.Core.Path.{sym, _∙_}
-use mathlib.Core.Bool.{Bool, true≢false}
+use mathlib.Core.Bool.{Bool, _||_, true≢false}
 use mathlib.Core.List.{List, map}
 use Prim.Native.Nat.{ℕ}
 use borrow.Author.Needs.{needs}
@@ -50,8 +50,8 @@ returns-2 c =
     let tack = c .before .before .before .before .tack-part .ensures in
     let breaks = c .before .before .before .breaks-part .ensures in
     let w = c .before .before .apply .ensures in (
-      w .0 ∙ by-reading (λ (on : Bool) (x y : List ℕ). stepsAnswer on (a .name .now) (a .clock .0) (unlessEmpty x) (map breakKey (breakSignatures y)) (decode (a .area .now))) (a .extension .now) _ reading tack breaks,
-      w .1 ∙ by-reading (λ (on : Bool) (x y : List ℕ). encode (steps on (a .name .now) (a .clock .0) (unlessEmpty x) (map breakKey (breakSignatures y)) (decode (a .area .now)))) (a .extension .now) _ reading tack breaks,
+      w .0 ∙ by-reading (λ (on : Bool) (x y : List ℕ). stepsAnswer on (on || a .learn-disabled) (a .name .now) (a .clock .0) (unlessEmpty x) (map breakKey (breakSignatures y)) (decode (a .area .now))) (a .extension .now) _ reading tack breaks,
+      w .1 ∙ by-reading (λ (on : Bool) (x y : List ℕ). encode (steps on (on || a .learn-disabled) (a .name .now) (a .clock .0) (unlessEmpty x) (map breakKey (breakSignatures y)) (decode (a .area .now)))) (a .extension .now) _ reading tack breaks,
     )
 
 pub apply-shown-spec : {M : Type 1} → statement M

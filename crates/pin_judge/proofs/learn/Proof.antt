@@ -1,12 +1,12 @@
 -- Where no tack is shown nothing changes; else the steps follow each other.
 use mathlib.Core.Path.{sym, ap, _∙_}
-use mathlib.Core.Bool.{true, false}
+use mathlib.Core.Bool.{true, false, _||_}
 use borrow.Author.Needs.{needs}
 use Rattle.pin_model.specs.Layout.{decode}
 use Rattle.pin_model.specs.Judge.{raise, extend}
 use Rattle.pin_records.proofs.HeldSlots.{holds-decode, holds-stored}
+use Rattle.pin_model.proofs.Disabled.{not-extended}
 use Rattle.pin_model.proofs.TackShown.{not-shown, shown, whole-length}
-use Rattle.pin_judge.proofs.Learnt.{not-extended}
 use Rattle.pin_judge.proofs.Steps.{ready-to-extend, nothing-shown, ready-to-create, created}
 use Rattle.pin_judge.proofs.learn.Statement.{statement}
 use Rattle.pin_judge.proofs.learn.Tie as tie
@@ -15,7 +15,7 @@ returns : tie.Need-returns
 returns c =
     let s = c .before .before .before .before in
     let a = s .args in
-    nothing-shown (a .enabled) (a .name .now) (a .clock .0) (a .tack .now) (decode (a .area .now))
+    nothing-shown (a .enabled) (a .enabled || a .learn-disabled) (a .name .now) (a .clock .0) (a .tack .now) (decode (a .area .now))
     (not-shown (a .tack .now) (c .if1 .taken)) (s .pre .0 .admitted .stored)
 
 raise-floor-requires : tie.Need-raise-floor-requires
@@ -56,7 +56,7 @@ returns-2 c =
     let a = c .before .before .before .before .before .before .before .before .before .before .before .before .before .before .before .before .before .args in
     let its = holds-decode (c .before .before .before .before .before .before .extend-pin .ensures) ∙ ap (extend true (a .name .now) (a .clock .0) (a .tack .now)) (holds-decode (c .before .before .before .before .before .before .before .before .before .before .before .raise-floor .ensures)) in
     rw (c .before .before .before .before .before .before .before .before .if2 .taken)
-    (created true (a .name .now) (a .clock .0) (a .tack .now) (decode (a .area .now)) _ its (shown (a .tack .now) (c .before .before .before .before .before .before .before .before .before .before .before .before .before .if1 .left)) (c .before .before .create-record .ensures))
+    (created true true (a .name .now) (a .clock .0) (a .tack .now) (decode (a .area .now)) _ its (shown (a .tack .now) (c .before .before .before .before .before .before .before .before .before .before .before .before .before .if1 .left)) (c .before .before .create-record .ensures))
 
 create-record-requires-2 : tie.Need-create-record-requires-2
 create-record-requires-2 c κs =
@@ -81,7 +81,7 @@ returns-3 c =
     let a = c .before .before .before .before .before .before .before .before .before .before .before .before .before .args in
     let its = holds-decode (c .before .before .before .before .before .before .before .raise-floor .ensures) ∙ sym (not-extended (a .name .now) (a .tack .now) (a .clock .0) (raise (a .tack .now) (decode (a .area .now)))) in
     rw (c .before .before .before .before .if2 .left)
-    (created false (a .name .now) (a .clock .0) (a .tack .now) (decode (a .area .now)) _ its (shown (a .tack .now) (c .before .before .before .before .before .before .before .before .before .if1 .left)) (c .before .before .create-record2 .ensures))
+    (created false (a .learn-disabled) (a .name .now) (a .clock .0) (a .tack .now) (decode (a .area .now)) _ its (shown (a .tack .now) (c .before .before .before .before .before .before .before .before .before .if1 .left)) (c .before .before .create-record2 .ensures))
 
 pub learn-spec : {M : Type 1} → statement M
 learn-spec =

@@ -3,6 +3,7 @@ use mathlib.Core.Path.{sym, _∙_}
 use denote.Ref.{now}
 use borrow.Author.Needs.{needs}
 use borrow.Author.Tests.{not-true, not-false}
+use Rattle.octets.proofs.Tests.{and-right}
 use Rattle.pin_model.specs.Layout.{decode}
 use Rattle.pin_records.proofs.Found.{name-found-at, name-absent}
 use Rattle.pin_creation.proofs.Creation.{holds-name, unwanted, no-room, created}
@@ -18,7 +19,7 @@ same-length c = search needs
 returns : tie.Need-returns
 returns c =
     let s = c .before .before .before .before .before .before in
-    unwanted (now (s .args .name)) (now (s .args .tack)) (s .args .clock .0) (decode (now (s .args .area))) (s .pre .0)
+    unwanted (s .args .may-record) (now (s .args .name)) (now (s .args .tack)) (s .args .clock .0) (decode (now (s .args .area))) (s .pre .0)
     (sym (c .before .wants-record .ensures) ∙ not-true _ (c .if1 .taken))
 
 has-room-requires : tie.Need-has-room-requires
@@ -30,7 +31,7 @@ same-length-2 c = search needs
 returns-2 : tie.Need-returns-2
 returns-2 c =
     let s = c .before .before .before .before .before .before .before .before .before in
-    no-room (now (s .args .name)) (now (s .args .tack)) (s .args .clock .0) (decode (now (s .args .area))) (s .pre .0)
+    no-room (s .args .may-record) (now (s .args .name)) (now (s .args .tack)) (s .args .clock .0) (decode (now (s .args .area))) (s .pre .0)
     (sym (c .before .before .before .before .wants-record .ensures) ∙ not-false _ (c .before .before .before .if1 .left)) (sym (c .before .has-room .ensures) ∙ not-true _ (c .if2 .taken))
 
 find-name-requires : tie.Need-find-name-requires
@@ -61,7 +62,7 @@ returns-3 : tie.Need-returns-3
 returns-3 c =
     let i = c .before .before .before .before .before .before .before .before in
     let s = i .before .before .before .before .before .before .before .before .before in
-    created (now (s .args .name)) (now (s .args .tack)) (s .args .clock .0) (decode (now (s .args .area))) (c .before .before .add .ensures)
+    created (s .args .may-record) (now (s .args .name)) (now (s .args .tack)) (s .args .clock .0) (decode (now (s .args .area))) (c .before .before .add .ensures)
     (sym (i .before .before .before .before .wants-record .ensures) ∙ not-false _ (i .before .before .before .if1 .left)) (sym (i .before .has-room .ensures) ∙ not-false _ (i .if2 .left))
 
 replace-requires : tie.Need-replace-requires
@@ -75,7 +76,7 @@ replace-requires c κs =
       s .pre .2,
       s .pre .3,
       holds-name (now (s .args .name)) _ _ x,
-      sym (i .before .before .before .before .wants-record .ensures) ∙ not-false _ (i .before .before .before .if1 .left),
+      and-right (s .args .may-record) _ (sym (i .before .before .before .before .wants-record .ensures) ∙ not-false _ (i .before .before .before .if1 .left)),
       sym (i .before .has-room .ensures) ∙ not-false _ (i .if2 .left),
       s .pre .4,
     )
@@ -87,7 +88,7 @@ returns-4 : tie.Need-returns-4
 returns-4 c =
     let i = c .before .before .before .before .before .before .before .before .before in
     let s = i .before .before .before .before .before .before .before .before .before in
-    created (now (s .args .name)) (now (s .args .tack)) (s .args .clock .0) (decode (now (s .args .area))) (c .before .before .replace .ensures)
+    created (s .args .may-record) (now (s .args .name)) (now (s .args .tack)) (s .args .clock .0) (decode (now (s .args .area))) (c .before .before .replace .ensures)
     (sym (i .before .before .before .before .wants-record .ensures) ∙ not-false _ (i .before .before .before .if1 .left)) (sym (i .before .has-room .ensures) ∙ not-false _ (i .if2 .left))
 
 pub create-record-spec : {M : Type 1} → statement M
