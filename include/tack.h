@@ -43,19 +43,16 @@ typedef struct {
     bool no_room;
 } tack_judgement;
 
-/* Deletion: 3 deleted, 4 the name is not recorded, or 10 to 12. Starting: 7 started, or 10. Converting: 31 converted, or 10 or
- * 11. */
+/* Deletion: 3 deleted, 4 the name is not recorded, or 10 to 12. Starting: 7 started, or 10. */
 typedef struct {
     uint8_t number, alert;
 } tack_outcome;
 
-/* 5: recorded, without an end; 6: with one; 4: no such record; or 10 to 13. initial is when the record was made; last is the clock
- * of the latest call with a verdict, for this name, that showed the record's key, enabled or not (of a converted record, see
- * tack_convert). minutes_left is the end minus the given clock, 0 at the end and negative after it. A field without meaning is
- * 0. */
+/* 5: recorded, without an end; 6: with one; 4: no such record; or 10 to 13. minutes_left is the end minus the given clock, 0 at
+ * the end and negative after it. A field without meaning is 0. */
 typedef struct {
     uint8_t number, alert, floor;
-    uint32_t initial, end, last;
+    uint32_t initial, end;
     int64_t minutes_left;
 } tack_inspection;
 
@@ -93,8 +90,8 @@ bool tack_name_well_formed(const uint8_t *name, size_t length);
 /* The pin table is an area of 39,432 bytes that the caller keeps, in memory or in a file, and lends to each call. Byte 4 is its
  * edition, 0 for one and 1 for two; bytes 5 to 7 are zero. All zero is the empty table of edition one. In edition two a name
  * may have two records, with different keys. An area of another length is 10, a damaged table 11. The table keeps names in small
- * letters only; one that holds a capital is damaged, and so is one that was kept before records had a last, until tack_convert.
- * Clocks are whole minutes since 1970, 4,294,924,095 at most; above that it is 13. */
+ * letters only; one that holds a capital is damaged. Clocks are whole minutes since 1970, 4,294,924,095 at most; above that it is
+ * 13. */
 #define TACK_TABLE_LENGTH 39432
 
 /* The refusals, the alert in brackets where there is one. 18 to 23 need a tack.
@@ -138,7 +135,7 @@ tack_judgement tack2_judge(uint8_t *table, size_t table_length, uint64_t clock,
                            const uint8_t *spki_sha256, size_t spki_sha256_length,
                            bool handshake_finished, uint8_t keys_are_points, uint8_t signatures_correct);
 
-/* Deletion, inspection, starting and converting serve tables of both editions. */
+/* Deletion, inspection and starting serve tables of both editions. */
 
 /* Removes a name's record, in edition two both records, and each key if no name is left on it. */
 tack_outcome tack_delete(uint8_t *table, size_t table_length, const uint8_t *name, size_t name_length);
@@ -150,14 +147,6 @@ tack_inspection tack_inspect(const uint8_t *table, size_t table_length,
 
 /* Makes the empty table of edition one or two, whatever the area held. */
 tack_outcome tack_start(uint8_t *table, size_t table_length, bool edition_two);
-
-/* A table that was kept before its name records had a last has zeros in their place, bytes 12 to 15 of each name slot; if it has a
- * record it is 11 to judging, deletion and inspection. This gives each record its last, the clock at which its end was set, or
- * initial where it has no end: 31. Later sights that set no end were not kept. No byte but those four of each used name slot
- * changes. 10: another length. 11, and nothing changes: the table was damaged, or an end is none that judging sets up to latest, or
- * a record has a last already. Convert a copy and keep it once it is whole: a call that is stopped midway leaves some records with a
- * last and some without. */
-tack_outcome tack_convert(uint8_t *table, size_t table_length);
 
 /* So many bytes are always enough for one recorded call. */
 #define TACK_LONGEST_CALL 4452

@@ -1,5 +1,5 @@
 /* Reads an extension of each edition through the C interface, and malformed ones; records a call; judges a disabled server of
- * edition one, and a server of edition two that moves from one key to another through two tacks; converts an old table. */
+ * edition one, and a server of edition two that moves from one key to another through two tacks. */
 #include "tack.h"
 #include <stdio.h>
 #include <string.h>
@@ -60,7 +60,7 @@ static void disabled_server(bool learn_disabled) {
                         true, true, true, 0, learn_disabled);
     inspected = tack_inspect(table, sizeof table, name, sizeof name, 1000, false);
     printf("%d %d %d\n", judged.number, judged.alert, judged.no_room);
-    printf("%d %u %u\n", inspected.number, inspected.initial, inspected.last);
+    printf("%d %u\n", inspected.number, inspected.initial);
 }
 
 /* One tack, disabled; with bit 1 of the flags, which is the second tack's, it is malformed. */
@@ -107,8 +107,8 @@ static void inspect_both(const uint8_t *table, uint64_t clock) {
     const tack_inspection first = tack_inspect(table, TACK_TABLE_LENGTH, name, sizeof name, clock, false);
     const tack_inspection second = tack_inspect(table, TACK_TABLE_LENGTH, name, sizeof name, clock, true);
 
-    printf("%d %u %u %u %ld\n", first.number, first.initial, first.end, first.last, (long)first.minutes_left);
-    printf("%d %u %u %u %ld\n", second.number, second.initial, second.end, second.last, (long)second.minutes_left);
+    printf("%d %u %u %ld\n", first.number, first.initial, first.end, (long)first.minutes_left);
+    printf("%d %u %u %ld\n", second.number, second.initial, second.end, (long)second.minutes_left);
 }
 
 /* The new key's pin is made and activated beside the old one's, which then ends. */
@@ -143,27 +143,6 @@ static void other_edition(void) {
     printf("%d %d %d\n", judged.number, judged.alert, judged.no_room);
 }
 
-/* A table as it was kept before its records had a last, with a pin of a.b that was made at 1000 and activated at 1600 until 2200. */
-static void old_table(void) {
-    static uint8_t table[TACK_TABLE_LENGTH];
-    const uint8_t pin[] = {1, 0, 3, 1, 0, 0, 0x03, 0xe8, 0, 0, 0x08, 0x98, 0, 0, 0, 0, 'a', '.', 'b'};
-    tack_outcome first, again;
-    tack_inspection inspected;
-
-    tack_start(table, sizeof table, false);
-    table[2] = 0x06; /* latest: 1600 */
-    table[3] = 0x40;
-    table[8] = 1;
-    memset(table + 16, 0x11, 64);
-    memcpy(table + 4616, pin, sizeof pin);
-    first = tack_convert(table, sizeof table);
-    inspected = tack_inspect(table, sizeof table, pin + 16, 3, 1600, false);
-    again = tack_convert(table, sizeof table);
-    printf("%d %d\n", first.number, first.alert);
-    printf("%d %u %u %u\n", inspected.number, inspected.initial, inspected.end, inspected.last);
-    printf("%d %d\n", again.number, again.alert);
-}
-
 int main(void) {
     extension_of_edition_one();
     recorded_call();
@@ -172,6 +151,5 @@ int main(void) {
     extension_of_edition_two();
     move_to_another_key();
     other_edition();
-    old_table();
     return 0;
 }

@@ -139,7 +139,6 @@ fn is_inspected(area: &mut Area, slot: usize, second: bool) -> Result<(), String
         floor: area.key_slot(record.key_slot)[1],
         initial: record.initial,
         end,
-        last: record.last,
         minutes_left: i64::from(end) - i64::from(LATEST),
         ..Answer::default()
     };

@@ -16,8 +16,6 @@ const EDITION: usize = 4;
 const FIRST_NAME: usize = 4616;
 /// The bytes of a name slot.
 const NAME_SLOT: usize = 272;
-/// Where the last sight of its key stands in it.
-const LAST: std::ops::Range<usize> = 12..16;
 
 pub type Key = [u8; 64];
 
@@ -27,8 +25,6 @@ pub struct Record {
     pub key_slot: usize,
     pub initial: u32,
     pub end: Option<u32>,
-    /// The last sight of the key.
-    pub last: u32,
 }
 
 impl Record {
@@ -166,23 +162,6 @@ impl Area {
             key_slot: usize::from(bytes[1]),
             initial: number(&bytes[4..8]),
             end: (bytes[3] == 1).then(|| number(&bytes[8..12])),
-            last: self.last(slot),
-        }
-    }
-
-    /// The last sight of a name slot, used or not.
-    pub fn last(&self, slot: usize) -> u32 {
-        number(&self.name_slot(slot)[LAST])
-    }
-
-    pub fn set_last(&mut self, slot: usize, last: u32) {
-        self.name_slot_mut(slot)[LAST].copy_from_slice(&last.to_be_bytes());
-    }
-
-    /// Every used name slot as it was when last was not kept.
-    pub fn forget_lasts(&mut self) {
-        for slot in self.used_names() {
-            self.set_last(slot, 0);
         }
     }
 
@@ -206,7 +185,6 @@ impl Area {
         bytes[3] = u8::from(record.end.is_some());
         bytes[4..8].copy_from_slice(&record.initial.to_be_bytes());
         bytes[8..12].copy_from_slice(&record.end.unwrap_or(0).to_be_bytes());
-        self.set_last(slot, record.last);
     }
 
     pub fn put_name(&mut self, slot: usize, name: &[u8]) {
@@ -241,16 +219,11 @@ pub fn first_difference(one: &[u8], two: &[u8]) -> Option<usize> {
     }
 }
 
-/// A byte of an area in words; a floor and a last by their names, since calls change one alone.
+/// A byte of an area in words; a floor by its name, since 23 changes one alone.
 pub fn place(at: usize) -> String {
     let in_keys = at.checked_sub(8).map(|at| (at / 72, at % 72));
-    let in_names = at.checked_sub(FIRST_NAME);
-    let in_names = in_names.map(|at| (at / NAME_SLOT, at % NAME_SLOT));
-    match (in_keys, in_names) {
-        (Some((slot, 1)), None) => format!("the floor of key slot {slot} (byte {at})"),
-        (_, Some((slot, byte))) if LAST.contains(&byte) => {
-            format!("the last of name slot {slot} (byte {at})")
-        }
+    match in_keys {
+        Some((slot, 1)) if slot < KEY_SLOTS => format!("the floor of key slot {slot} (byte {at})"),
         _ => format!("byte {at}"),
     }
 }

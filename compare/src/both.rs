@@ -5,7 +5,6 @@ use crate::call::{Answer, By, Call};
 use crate::disabled;
 use crate::either_choice;
 use crate::kept;
-use crate::last;
 use tack::raw;
 use tack::table::Refusal;
 
@@ -40,10 +39,8 @@ fn by_both(call: &Call, before: &[u8]) -> Result<Given, String> {
     let answer = proved.answer;
     kept::check(call, answer.number, before, &proved.table)
         .and_then(|()| disabled::check(call, &answer, before, &proved.table))
-        .and_then(|()| last::check(call, answer.number, before, &proved.table))
         .map_err(|problem| format!("both agree, but {problem}: {answer:?}"))?;
-    let is_refusal = (10..=30).contains(&answer.number);
-    match is_refusal && Refusal::try_from(answer.number).is_err() {
+    match answer.number >= 10 && Refusal::try_from(answer.number).is_err() {
         true => Err(format!("the safe crate knows no refusal of {answer:?}")),
         false => Ok(proved),
     }

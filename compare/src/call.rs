@@ -27,8 +27,6 @@ pub enum Call {
         second: bool,
     },
     Start(Edition),
-    /// Of a table that was kept before its records had a last sight.
-    Convert,
 }
 
 /// The program that makes a call.
@@ -57,7 +55,6 @@ impl Call {
                 second,
             } => raw::inspect(table, name, *clock, *second).into(),
             Call::Start(edition) => raw::start(table, *edition == Edition::Two).into(),
-            Call::Convert => raw::convert(table).into(),
         }
     }
 
@@ -72,18 +69,17 @@ impl Call {
                 second,
             } => second::inspect(table, name, *clock, *second).into(),
             Call::Start(edition) => second::start(table, *edition == Edition::Two).into(),
-            Call::Convert => second::convert(table).into(),
         }
     }
 
-    /// The name that the call is about; starting and converting are about none.
+    /// The name that the call is about; starting is about none.
     pub fn name(&self) -> Option<&[u8]> {
         match self {
             Call::Judge(Connection { name, .. })
             | Call::JudgeTwo(ConnectionTwo { name, .. })
             | Call::Delete { name }
             | Call::Inspect { name, .. } => Some(name),
-            Call::Start(_) | Call::Convert => None,
+            Call::Start(_) => None,
         }
     }
 
@@ -99,7 +95,7 @@ impl Call {
             | Call::JudgeTwo(ConnectionTwo { name, .. })
             | Call::Delete { name }
             | Call::Inspect { name, .. } => *name = spelling::small(name),
-            Call::Start(_) | Call::Convert => {}
+            Call::Start(_) => {}
         }
         call
     }

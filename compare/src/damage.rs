@@ -2,7 +2,7 @@
 
 use crate::area::{Area, KEY_SLOTS, LIMIT, NAME_SLOTS};
 use crate::random::Random;
-use crate::sound::{Fill, Times};
+use crate::sound::Fill;
 use crate::spoil;
 use second::Damage;
 use tack::table::Edition;
@@ -96,7 +96,6 @@ impl Kind {
                 Edition::Two => 2 + random.below(names / 2 - 2),
             },
             latest: 1 + random.up_to(LIMIT - 2),
-            times: Times::Any,
             key_slot: match self.spot {
                 Spot::UsedKey => Some((slot, true)),
                 Spot::FreeKey => Some((slot, false)),
@@ -117,12 +116,6 @@ impl Kind {
 
 /// The kinds that are done to tables of an edition.
 pub fn kinds(edition: Edition) -> Vec<&'static Kind> {
-    let kinds = KINDS.iter().chain(OF_LAST);
-    kinds.filter(|kind| kind.is_of(edition)).collect()
-}
-
-/// Those that are the same where last is not kept.
-pub fn kinds_without_last(edition: Edition) -> Vec<&'static Kind> {
     KINDS.iter().filter(|kind| kind.is_of(edition)).collect()
 }
 
@@ -159,7 +152,7 @@ const KINDS: &[Kind] = kinds! {
 
     "initial at latest", Both, UsedName, [], initial_at_latest;
     "end at initial", Both, UsedName, [], end_at_initial;
-    "end 43,200 after latest", Both, UsedName, [], end_after_latest;
+    "end 43,200 after latest", Both, UsedName, [], end_at_last;
     "names that differ in one byte", Both, UsedName, [], name_alike;
     "two records of a name", Two, UsedName, [], second_record;
     "used byte of a name", Both, UsedName, [NameUsedNeitherZeroNorOne], name_used;
@@ -174,6 +167,7 @@ const KINDS: &[Kind] = kinds! {
     "end below initial", Both, UsedName, [EndBeforeInitial], end_below_initial;
     "end above latest + 43,200", Both, UsedName, [EndTooLate], end_too_late;
     "initial above latest", Both, UsedName, [InitialAfterLatest], initial_above_latest;
+    "padding before a name", Both, UsedName, [NameFillNotZero], before_name;
     "stray byte behind a name", Both, UsedName, [NamePaddingNotZero], behind_name;
     "last three bytes of a name slot", Both, UsedName, [NameSlotEndNotZero], name_slot_end;
     "two equal names", One, UsedName, [NameTwice], name_twice;
@@ -184,15 +178,4 @@ const KINDS: &[Kind] = kinds! {
     "two spellings of one name", Both, UsedName, [NameMalformed], name_in_two_spellings;
     "used byte of a free name slot", Both, FreeName, [NameUsedNeitherZeroNorOne], name_used;
     "stray byte in a free name slot", Both, FreeName, [FreeNameSlotNotZero], free_name_slot;
-};
-
-/// Those of the last sight.
-#[rustfmt::skip]
-const OF_LAST: &[Kind] = kinds! {
-    "last at initial", Both, UsedName, [], last_at_initial;
-    "last at latest", Both, UsedName, [], last_at_latest;
-    "end 43,200 after last, which is below latest", Both, UsedName, [], end_after_last;
-    "last below initial", Both, UsedName, [LastBeforeInitial], last_below_initial;
-    "last above latest", Both, UsedName, [LastAfterLatest], last_above_latest;
-    "end above last + 43,200, not above latest + 43,200", Both, UsedName, [EndTooLate], end_after_last_too_late;
 };

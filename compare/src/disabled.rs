@@ -22,32 +22,21 @@ fn has_step_2(connection: &Connection) -> bool {
     connection.tack().is_some() && (connection.is_enabled() || connection.learn_disabled)
 }
 
-/// The floor of the tack's key is raised, the name's own key is seen, broken keys go, latest becomes the clock. No other byte
-/// changes, and so none but last of a name slot whose key stays.
+/// The floor of the tack's key is raised, broken keys go, latest becomes the clock. No other byte changes, and so none of a name
+/// slot whose key stays.
 fn without_step_2(before: &[u8], connection: &Connection) -> Vec<u8> {
     let mut area = Area {
         bytes: before.to_vec(),
     };
-    // A clock with a verdict has 32 bits.
-    let clock = connection.clock as u32;
     if let Some(tack) = connection.tack() {
         kept::raise_floor(&mut area, &tack);
-        see(&mut area, &connection.name, &tack.key, clock);
     }
     for key in connection.broken_keys() {
         remove_key(&mut area, &key);
     }
-    area.set_latest(clock);
+    // A clock with a verdict has 32 bits.
+    area.set_latest(connection.clock as u32);
     area.bytes
-}
-
-/// A disabled tack is a sight of the key too, where the name's record has it.
-fn see(area: &mut Area, name: &[u8], key: &Key, clock: u32) {
-    for pin in area.pins_of(name) {
-        if pin.key == *key {
-            area.set_last(pin.name_slot, clock);
-        }
-    }
 }
 
 /// Step 3 of judging: a key record that a break signature names goes, with all its names.
@@ -138,20 +127,6 @@ mod tests {
             after.bytes[at] ^= 1;
             assert!(check(&call, &answer, &before.bytes, &after.bytes).is_err());
             after.bytes[at] ^= 1;
-        }
-    }
-
-    #[test]
-    fn the_sight_of_the_own_key_is_held() {
-        let before = table();
-        let call = Call::Judge(showing(NAMES[0], before.key(9), None, 0));
-        let (answer, after) = by_second(&call, &before);
-        // The key is seen for this name, and not for the other name that has it.
-        assert_eq!((after.last(1), after.last(7)), (CLOCK, before.last(7)));
-        for (slot, last) in [(1, before.last(1)), (7, CLOCK)] {
-            let mut other = after.clone();
-            other.set_last(slot, last);
-            assert!(check(&call, &answer, &before.bytes, &other.bytes).is_err());
         }
     }
 

@@ -28,7 +28,7 @@ pub fn other(call: &Call, number: u8, before: &[u8]) -> Option<Call> {
 fn is_in_sample(connection: &Connection) -> bool {
     let mut hasher = DefaultHasher::new();
     connection.hash(&mut hasher);
-    hasher.finish().is_multiple_of(ONE_IN)
+    hasher.finish() % ONE_IN == 0
 }
 
 /// Refusals do not look at the choice, nor does an enabled tack, nor do the steps of judging but 2(ii).

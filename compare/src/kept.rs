@@ -3,7 +3,6 @@
 
 use crate::area::{self, Area};
 use crate::call::{Call, Connection};
-use crate::convert::formula;
 use crate::wire::Tack;
 use std::borrow::Cow;
 
@@ -14,7 +13,6 @@ pub fn check(call: &Call, number: u8, before: &[u8], after: &[u8]) -> Result<(),
         (0..=3, _) => return Ok(()),
         (7, Call::Start(edition)) => Cow::Owned(Area::of_edition(*edition).bytes),
         (23, Call::Judge(connection)) => Cow::Owned(after_expired(before, connection)?),
-        (31, Call::Convert) => Cow::Owned(after_conversion(before)?),
         _ => Cow::Borrowed(before),
     };
     same_table(number, after, &expected)
@@ -41,15 +39,6 @@ fn after_expired(before: &[u8], connection: &Connection) -> Result<Vec<u8>, Stri
     };
     raise_floor(&mut area, &tack);
     Ok(area.bytes)
-}
-
-/// Document 02, Q-8: each record gets its last. No other byte changes.
-fn after_conversion(before: &[u8]) -> Result<Vec<u8>, String> {
-    let old = Area {
-        bytes: before.to_vec(),
-    };
-    let converted = formula::converted(&old).ok_or("31 came for a record without a last")?;
-    Ok(converted.bytes)
 }
 
 /// Step 1 of judging: the floor of the tack's key, if it is recorded, is the higher of itself and min_generation.
@@ -132,28 +121,6 @@ mod tests {
         let mut after = before.clone();
         after.put_key(0, 5, &tack(5).key);
         assert!(check(&call(5), 23, &before.bytes, &after.bytes).is_err());
-    }
-
-    #[test]
-    fn a_conversion_changes_lasts_and_no_other_byte() {
-        let mut old = table();
-        old.forget_lasts();
-        let mut converted = old.clone();
-        // Each end is more than two longest periods after initial.
-        for (slot, end) in [(0, 1_500_000), (1, 1_500_002)] {
-            converted.set_last(slot, end - 43_200);
-        }
-        let checked =
-            |number, after: &Area| check(&Call::Convert, number, &old.bytes, &after.bytes);
-        assert_eq!(checked(31, &converted), Ok(()));
-        assert_eq!(checked(11, &old), Ok(()));
-        assert!(checked(31, &old).is_err());
-        assert!(checked(11, &converted).is_err());
-        for at in 0..converted.bytes.len() {
-            let mut other = converted.clone();
-            other.bytes[at] ^= 1;
-            assert!(checked(31, &other).is_err());
-        }
     }
 
     #[test]

@@ -27,8 +27,6 @@ pub struct Progress {
     pub inputs_two: u64,
     /// Calls on tables of edition two, and of lists in both editions.
     pub calls_two: u64,
-    /// Tables that were to be converted.
-    pub conversions: u64,
 }
 
 impl Progress {
@@ -44,7 +42,6 @@ impl Progress {
             nights: 0,
             inputs_two: 0,
             calls_two: 0,
-            conversions: 0,
         }
     }
 
@@ -77,9 +74,8 @@ impl Progress {
         let (slots, calls, nights) = (self.slots, self.calls, self.nights);
         let inputs = self.inputs + slots;
         let (inputs_two, calls_two) = (self.inputs_two, self.calls_two);
-        let conversions = self.conversions;
         format!(
-            "{inputs} inputs, {slots} of them slots of tables, {calls} calls and {nights} nights; with edition two {inputs_two} inputs and {calls_two} calls more; {conversions} conversions"
+            "{inputs} inputs, {slots} of them slots of tables, {calls} calls and {nights} nights; with edition two {inputs_two} inputs and {calls_two} calls more"
         )
     }
 }

@@ -8,8 +8,6 @@
 //! * [`spelling`]: names in letters of either case, which every part above mixes.
 //! * [`wire`], [`record`], [`area`]: the bytes of extensions, recorded calls and tables, without the help of either program.
 //! * [`both`], [`kept`]: one call by both programs, and what its number says of the table afterwards.
-//! * [`last`]: the last sight of each record's key, by the calls alone.
-//! * [`convert`](mod@convert): the converter of tables that were kept before there was a last sight, compared by the program too.
 //! * [`disabled`], [`either_choice`], [`creation`]: what a call of edition one may record by its tack's activation and its own
 //!   choice.
 //! * [`tally`], [`kind_counts`]: how often each number and each kind came.
@@ -20,7 +18,6 @@ pub mod area;
 pub mod both;
 pub mod call;
 pub mod choices;
-pub mod convert;
 pub mod creation;
 pub mod damage;
 pub mod disabled;
@@ -32,7 +29,6 @@ pub mod extensions_two;
 mod full_table;
 pub mod kept;
 pub mod kind_counts;
-pub mod last;
 pub mod length;
 pub mod lists;
 pub mod make;

@@ -10,7 +10,6 @@ use crate::area::{Area, KEY_SLOTS, NAME_SLOTS};
 use crate::both;
 use crate::call::{Answer, Call, Connection};
 use crate::choices::{Choices, Mix};
-use crate::last::Sights;
 use crate::random::Random;
 use crate::tally::Tally;
 use ages::Ages;
@@ -28,7 +27,6 @@ pub struct Lists {
     ages: Ages,
     expired: Expired,
     disabled: Disabled,
-    sights: Sights,
 }
 
 /// How often a pin found a full table.
@@ -110,14 +108,12 @@ impl Lists {
             self.expired
                 .add(&before, &call, &answer, &area)
                 .and_then(|()| self.disabled.add(&before, &call, &answer, &area))
-                .and_then(|()| self.sights.add(&before, &call, answer.number, &area))
                 .map_err(|problem| format!("both agree, but {problem}: {call:02x?}"))?;
             calls += 1;
         }
         self.spellings.end_list();
         self.expired.end_list();
         self.disabled.end_list();
-        self.sights.end_list();
         Ok(calls)
     }
 
@@ -128,8 +124,8 @@ impl Lists {
         Ok(answer)
     }
 
-    /// The verdict: every number, every spelling, every kind of room, every age of a pin, every kind of expired tack, every kind of
-    /// record that is made or not by a call's choice and every kind of last sight came.
+    /// The verdict: every number, every spelling, every kind of room, every age of a pin, every kind of expired tack and every kind
+    /// of record that is made or not by a call's choice came.
     pub fn finish(&self) -> Result<(), String> {
         let numbers: Vec<u8> = (0..=7).chain(10..=23).collect();
         self.numbers.report("calls of lists", &numbers)?;
@@ -138,7 +134,6 @@ impl Lists {
         self.room.report()?;
         self.ages.report("pins")?;
         self.expired.report()?;
-        self.disabled.report()?;
-        self.sights.report_one("lists")
+        self.disabled.report()
     }
 }

@@ -2,8 +2,7 @@
 //! proved program that replays a night, and the second one, on the same nights and compares every line.
 //!
 //! * `compare`: of edition one 200,000 extensions and names, some hundred thousand slots of tables, 100,000 calls on tables,
-//!   and some hundred nights; with edition two some ten thousand calls more, and some hundred thousand extensions; some ten
-//!   thousand conversions of old tables.
+//!   and some hundred nights; with edition two some ten thousand calls more, and some hundred thousand extensions.
 //! * `compare INPUTS [SEED]`: so many extensions and names, half as many calls, and some more slots and nights with them; of
 //!   edition two its edges, and a list in both editions for about every second list of edition one.
 //! * `compare --minutes MINUTES [SEED]`: for so long.
@@ -13,15 +12,13 @@
 //!
 //! After a refusal the table is also held to what the papers say of it: as it was, but for one floor after 23 of edition one. So is
 //! 'no room' and the table after a verdict of edition one without a tack, or with a disabled one and without the yes; and where
-//! that yes may change nothing, a call in ten is made again with the other choice. The last sight of each record is held to the
-//! calls before it, and a conversion to the formula of the request.
+//! that yes may change nothing, a call in ten is made again with the other choice.
 //!
 //! The proved program is `target/bin/replay`, unless `REPLAY_PROGRAM` names another. The comparison ends with status 1 at the
 //! first difference, or if a number, a spelling, an age of a pin, a kind of name field, of damage, of full table, of expired
-//! tack, of disabled tack, of last sight, of conversion, of night or of anything else that is counted in edition two never came. A
-//! call that hangs ends it with status 1 too, after two minutes.
+//! tack, of disabled tack, of night or of anything else that is counted in edition two never came. A call that hangs ends it with
+//! status 1 too, after two minutes.
 
-use compare::convert::Convert;
 use compare::edition_two::EditionTwo;
 use compare::length::{Length, Progress};
 use compare::nights::Nights;
@@ -42,7 +39,6 @@ struct Comparison {
     tables: Tables,
     lists: lists::Lists,
     edition_two: EditionTwo,
-    convert: Convert,
     nights: Nights,
 }
 
@@ -56,7 +52,6 @@ impl Comparison {
             tables: Tables::new(Edition::One),
             lists: lists::Lists::default(),
             edition_two: EditionTwo::new(seed),
-            convert: Convert::new(seed),
             nights,
         }
     }
@@ -75,15 +70,12 @@ impl Comparison {
             progress.say();
         }
         self.edition_two.edges(progress)?;
-        progress.begin("conversions");
-        progress.conversions += self.convert.edges()?;
         progress.nights += self.nights.edges()?;
         progress.say();
         Ok(())
     }
 
-    /// A list of calls, some tables, twice as many extensions and names, with name fields beside them; edition two; conversions;
-    /// a night.
+    /// A list of calls, some tables, twice as many extensions and names, with name fields beside them; edition two; a night.
     fn round(&mut self, random: &mut Random, progress: &mut Progress) -> Result<(), String> {
         progress.begin("lists of calls");
         progress.calls += self.lists.list(random)?;
@@ -97,8 +89,6 @@ impl Comparison {
             progress.slots += self.padded_names.case()?;
         }
         self.edition_two.round(progress)?;
-        progress.begin("conversions");
-        progress.conversions += self.convert.round()?;
         progress.nights += self.nights.case()?;
         progress.say();
         Ok(())
@@ -112,7 +102,6 @@ impl Comparison {
         self.tables.finish()?;
         self.lists.finish()?;
         self.edition_two.finish()?;
-        self.convert.finish()?;
         self.nights.finish()
     }
 }

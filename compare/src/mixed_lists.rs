@@ -17,7 +17,6 @@ use crate::area::{Area, LENGTH};
 use crate::both;
 use crate::call::{Answer, Call};
 use crate::choices::{Choices, Mix};
-use crate::last::Sights;
 use crate::lists::aside;
 use crate::lists::spellings::Spellings;
 use crate::random::Random;
@@ -40,7 +39,6 @@ pub struct MixedLists {
     spellings: Spellings,
     managed: Managed,
     two: JudgingTwo,
-    sights: Sights,
 }
 
 /// What judging by tables of edition two has met so far.
@@ -123,28 +121,11 @@ impl MixedLists {
                 self.both(&mut aside::changed(&area, random), &call)?;
                 calls += 1;
             }
-            if random.one_in(60) {
-                calls += self.convert_aside(&area, random)?;
-            }
-            let before = area.clone();
-            let answer = self.call(&mut area, &call)?;
-            self.sights
-                .add(&before, &call, answer.number, &area)
-                .map_err(|problem| format!("both agree, but {problem}: {call:02x?}"))?;
+            self.call(&mut area, &call)?;
             calls += 1;
         }
         self.spellings.end_list();
-        self.sights.end_list();
         Ok(calls)
-    }
-
-    /// The converter on copies of the table, which has lasts already, as it is and changed.
-    fn convert_aside(&mut self, area: &Area, random: &mut Random) -> Result<u64, String> {
-        let mut copies = [area.bytes.clone(), aside::changed(area, random)];
-        for copy in &mut copies {
-            self.both(copy, &Call::Convert)?;
-        }
-        Ok(copies.len() as u64)
     }
 
     /// A call on a sound table.
@@ -177,8 +158,7 @@ impl MixedLists {
         let named: Vec<u8> = (0..=6).chain(10..=16).chain(18..=24).chain([27]).collect();
         self.spellings.report("calls of mixed lists", &named)?;
         self.managed.report()?;
-        self.two.report()?;
-        self.sights.report_both("mixed lists")
+        self.two.report()
     }
 }
 
@@ -187,6 +167,6 @@ fn one_aside_in(call: &Call) -> usize {
     match call {
         Call::Judge(_) | Call::JudgeTwo(_) => 25,
         Call::Inspect { .. } | Call::Delete { .. } => 8,
-        Call::Start(_) | Call::Convert => 1,
+        Call::Start(_) => 1,
     }
 }

@@ -17,7 +17,6 @@ pub fn with_pins_in(slots: &[(usize, usize)]) -> Area {
             key_slot,
             initial: 1_000_000 + minutes,
             end: Some(1_500_000 + 2 * minutes),
-            last: 1_700_000 + 3 * minutes,
         };
         let name = format!("pin-{index}.example");
         area.put_pin(name_slot, record, name.as_bytes());

@@ -14,22 +14,10 @@ pub struct Fill {
     /// So many names have two records, for which edition two and two keys are needed.
     pub pairs: usize,
     pub latest: u32,
-    pub times: Times,
     /// A key slot that is to be used (yes) or free (no).
     pub key_slot: Option<(usize, bool)>,
     /// The same for a name slot.
     pub name_slot: Option<(usize, bool)>,
-}
-
-/// The times of the records.
-#[derive(Clone, Copy)]
-pub enum Times {
-    /// Any that are sound.
-    Any,
-    /// Those that calls with enabled tacks leave.
-    OfCalls,
-    /// Any that were sound when last was not kept: last is 0.
-    Old,
 }
 
 impl Fill {
@@ -45,7 +33,6 @@ impl Fill {
             keys,
             pairs,
             latest: latest(random),
-            times: Times::Any,
             key_slot: None,
             name_slot: None,
         }
@@ -84,7 +71,7 @@ pub fn table(fill: &Fill, random: &mut Random) -> Area {
         let second = index % 2 == 1 && index < 2 * fill.pairs;
         let key_slot = key_slot(&key_slots, index, before.filter(|_| second), random);
         let name = pool::name(family, numbers[fill.name_of(index)]);
-        area.put_pin(slot, record(key_slot, fill, random), &name);
+        area.put_pin(slot, record(key_slot, fill.latest, random), &name);
         before = Some(key_slot);
     }
     area
@@ -104,34 +91,17 @@ fn key_slot(key_slots: &[usize], record: usize, not: Option<usize>, random: &mut
 }
 
 /// A record whose times are at their edges or anywhere between.
-fn record(key_slot: usize, fill: &Fill, random: &mut Random) -> Record {
-    let initial = between(0, fill.latest, random);
-    let last = between(initial, fill.latest, random);
-    let has_end = !random.one_in(3);
-    let (end, last) = match fill.times {
-        Times::Any => (end(initial, last, random), last),
-        Times::Old => (end(initial, fill.latest, random), 0),
-        Times::OfCalls if has_end => (last + LONGEST.min(last - initial), last),
-        Times::OfCalls => (0, initial),
-    };
+fn record(key_slot: usize, latest: u32, random: &mut Random) -> Record {
+    let any = random.up_to(latest);
+    let initial = *random.pick(&[0, any, latest]);
+    let longest = latest + LONGEST - initial;
+    let any = random.up_to(longest);
+    let end = initial + *random.pick(&[0, any, latest - initial, longest]);
     Record {
         key_slot,
         initial,
-        end: has_end.then_some(end),
-        last,
+        end: (!random.one_in(3)).then_some(end),
     }
-}
-
-/// Often at an edge.
-fn between(first: u32, last: u32, random: &mut Random) -> u32 {
-    let any = first + random.up_to(last - first);
-    *random.pick(&[first, any, last])
-}
-
-/// From initial to 43,200 after the last sight.
-fn end(initial: u32, last: u32, random: &mut Random) -> u32 {
-    let end = between(initial, last + LONGEST, random);
-    *random.pick(&[end, end, end, last])
 }
 
 /// Different slots in any order, with one that is or is not among them if that is wished.

@@ -1,6 +1,6 @@
 //! How each kind of damage is done to a sound table. Each function breaks its rule at the given slot, and no other rule.
 
-use crate::area::{Area, Key, Record, KEY_SLOTS, LIMIT, LONGEST};
+use crate::area::{Area, Key, KEY_SLOTS, LIMIT, LONGEST};
 use crate::pool;
 use crate::random::Random;
 use crate::spelling;
@@ -159,10 +159,10 @@ pub fn length_wrong(area: &mut Area, slot: usize, random: &mut Random) {
     area.name_slot_mut(slot)[2] = *random.pick(&wrong) as u8;
 }
 
-/// The end, if any, is this long after initial, which is last and latest.
+/// The end, if any, is this long after initial, which is latest.
 fn set_times(area: &mut Area, slot: usize, end: Option<u32>) {
     let mut record = area.record(slot);
-    (record.initial, record.last) = (area.latest(), area.latest());
+    record.initial = area.latest();
     record.end = end.map(|after| record.initial + after);
     area.put_record(slot, record);
 }
@@ -175,7 +175,7 @@ pub fn end_at_initial(area: &mut Area, slot: usize, _: &mut Random) {
     set_times(area, slot, Some(0));
 }
 
-pub fn end_after_latest(area: &mut Area, slot: usize, _: &mut Random) {
+pub fn end_at_last(area: &mut Area, slot: usize, _: &mut Random) {
     set_times(area, slot, Some(LONGEST));
 }
 
@@ -190,87 +190,30 @@ pub fn end_absent(area: &mut Area, slot: usize, random: &mut Random) {
 
 pub fn end_below_initial(area: &mut Area, slot: usize, random: &mut Random) {
     let mut record = area.record(slot);
-    (record.initial, record.last) = (area.latest(), area.latest());
+    record.initial = area.latest();
     let any = random.up_to(record.initial - 1);
     record.end = Some(*random.pick(&[0, any, record.initial - 1]));
     area.put_record(slot, record);
 }
 
-/// Even if the key was seen just now.
 pub fn end_too_late(area: &mut Area, slot: usize, random: &mut Random) {
     let mut record = area.record(slot);
-    record.last = *random.pick(&[record.last, area.latest()]);
     let first = area.latest() + LONGEST + 1;
     let any = first + random.up_to(u32::MAX - first);
     record.end = Some(*random.pick(&[first, any, u32::MAX]));
     area.put_record(slot, record);
 }
 
-/// Last is then below initial or above latest.
 pub fn initial_above_latest(area: &mut Area, slot: usize, random: &mut Random) {
     let mut record = area.record(slot);
     let last_end = area.latest() + LONGEST;
     record.initial = area.latest() + 1 + random.up_to(LONGEST - 1);
     record.end = *random.pick(&[None, Some(record.initial), Some(last_end)]);
-    record.last = *random.pick(&[area.latest(), record.initial]);
     area.put_record(slot, record);
 }
 
-/// Initial, and the end at most 43,200 after it.
-pub fn last_at_initial(area: &mut Area, slot: usize, random: &mut Random) {
-    let mut record = area.record(slot);
-    let any = random.up_to(LONGEST);
-    let end = record.initial + *random.pick(&[0, any, LONGEST]);
-    record.last = record.initial;
-    record.end = *random.pick(&[None, Some(end)]);
-    area.put_record(slot, record);
-}
-
-pub fn last_at_latest(area: &mut Area, slot: usize, _: &mut Random) {
-    area.set_last(slot, area.latest());
-}
-
-/// The last sight, before latest, has given the longest period that there is.
-pub fn end_after_last(area: &mut Area, slot: usize, random: &mut Random) {
-    let mut record = seen_before_latest(area, slot, random);
-    record.end = Some(record.last + LONGEST);
-    area.put_record(slot, record);
-}
-
-/// An end that latest would allow.
-pub fn end_after_last_too_late(area: &mut Area, slot: usize, random: &mut Random) {
-    let mut record = seen_before_latest(area, slot, random);
-    let (first, last) = (record.last + LONGEST + 1, area.latest() + LONGEST);
-    let any = first + random.up_to(last - first);
-    record.end = Some(*random.pick(&[first, any, last]));
-    area.put_record(slot, record);
-}
-
-fn seen_before_latest(area: &Area, slot: usize, random: &mut Random) -> Record {
-    let mut record = area.record(slot);
-    let before = area.latest() - 1;
-    record.initial = random.up_to(before);
-    let any = record.initial + random.up_to(before - record.initial);
-    record.last = *random.pick(&[record.initial, any, before]);
-    record
-}
-
-/// The end, if any, is not too late.
-pub fn last_below_initial(area: &mut Area, slot: usize, random: &mut Random) {
-    let mut record = area.record(slot);
-    record.initial = 1 + random.up_to(area.latest() - 1);
-    let any = random.up_to(record.initial - 1);
-    record.last = *random.pick(&[0, any, record.initial - 1]);
-    let is_near = record.initial - record.last <= LONGEST;
-    record.end = (is_near && random.one_in(2)).then_some(record.initial);
-    area.put_record(slot, record);
-}
-
-/// 43,200 after it there may be more than 32 bits.
-pub fn last_above_latest(area: &mut Area, slot: usize, random: &mut Random) {
-    let first = area.latest() + 1;
-    let any = first + random.up_to(u32::MAX - first);
-    area.set_last(slot, *random.pick(&[first, any, u32::MAX]));
+pub fn before_name(area: &mut Area, slot: usize, random: &mut Random) {
+    stray(&mut area.name_slot_mut(slot)[12..16], random);
 }
 
 pub fn behind_name(area: &mut Area, slot: usize, random: &mut Random) {

@@ -75,16 +75,6 @@ pub fn extension_two(tacks: &[Tack], flags: u8) -> Vec<u8> {
     tacks_and_flags(&tacks, flags)
 }
 
-/// The tacks of a well-formed extension of edition two, each with whether its flag enables it.
-pub fn tacks_of_two(extension: &[u8]) -> Vec<(Tack, bool)> {
-    let flags = extension.last().copied().unwrap_or(0);
-    // The length stands before the tacks, and the flags behind them.
-    let tacks = extension.get(2..).unwrap_or_default().chunks_exact(TACK);
-    let tacks = tacks.filter_map(|bytes| Some(Tack::read(bytes.first_chunk()?)));
-    let place = |(place, tack)| (tack, flags >> place & 1 == 1);
-    tacks.enumerate().map(place).collect()
-}
-
 /// The length of the tacks, the tacks and the flags, whatever they are.
 pub fn tacks_and_flags(tacks: &[u8], flags: u8) -> Vec<u8> {
     let length = tacks.len() as u16;
@@ -112,16 +102,5 @@ fn what_is_written_is_read() {
         );
         let alone = extension(None, &broken, 1);
         assert_eq!((tack(&alone), broken_keys(&alone)), (None, broken));
-    }
-    let other = Tack {
-        key: [9; 64],
-        ..shown
-    };
-    for flags in 0..4 {
-        let (first, second) = ((shown, flags & 1 == 1), (other, flags & 2 == 2));
-        let both = extension_two(&[shown, other], flags);
-        assert_eq!(tacks_of_two(&both), [first, second]);
-        let alone = extension_two(&[shown], flags & 1);
-        assert_eq!(tacks_of_two(&alone), [first]);
     }
 }

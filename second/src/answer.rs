@@ -27,7 +27,6 @@ pub const TWO_TACKS_WITH_ONE_KEY: u8 = 24;
 pub const WRITER_BAD_PART: u8 = 25;
 pub const WRITER_NO_SPACE: u8 = 26;
 pub const TABLE_OF_OTHER_EDITION: u8 = 27;
-pub const CONVERTED: u8 = 31;
 
 const BAD_CERTIFICATE: u8 = 42;
 const CERTIFICATE_REVOKED: u8 = 44;

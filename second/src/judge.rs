@@ -179,7 +179,6 @@ impl<'a> Case<'a> {
         let key = &tack.public_key;
         match self.table.pin_of(&self.name) {
             Some((_, key_record)) if key_record.key == *key => {
-                self.table.see(&self.name, key, self.clock);
                 if self.extension.activation {
                     self.table.activate(&self.name, key, self.clock);
                 }

@@ -114,12 +114,10 @@ impl Case {
     }
 
     /// "After the floors are raised and latest set, the verdict falls." None of
-    /// these looks at the flags, nor does the sight of a key: any verdict counts
-    /// for it, so it is recorded before a contradicted call ends.
+    /// these looks at the flags.
     fn take_steps(&self, table: &mut PinTable) -> Judgement {
         for ShownTack { tack, .. } in &self.tacks {
             table.raise_floor(&tack.public_key, tack.min_generation);
-            table.see(&self.name, &tack.public_key, self.clock);
         }
         table.set_latest(self.clock);
         let verdict = self.verdict(table);

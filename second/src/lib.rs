@@ -14,8 +14,6 @@
 //!   edition one, and all learning from disabled servers.
 //! * [`manage`]: deletion and inspection of a name, starting a table.
 //! * [`table`]: the lent area as bytes, and what makes it sound.
-//! * [`old`], [`convert`](mod@convert): the tables before each name record had the
-//!   last sight of its key, and their converter.
 //! * [`pins`], [`records`]: the key records and name records behind it.
 //! * [`name`], [`minutes`], [`edition`], [`answer`]: names, clocks, editions,
 //!   numbers and alerts.
@@ -30,7 +28,6 @@
 #![forbid(unsafe_code)]
 
 pub mod answer;
-pub mod convert;
 pub mod edition;
 pub mod extension;
 pub mod extension_two;
@@ -40,14 +37,12 @@ pub mod manage;
 pub mod minutes;
 pub mod name;
 pub mod night;
-pub mod old;
 pub mod pins;
 pub mod records;
 mod refusal;
 pub mod table;
 
 pub use answer::{alert_of, alert_of_two};
-pub use convert::convert;
 pub use edition::Edition;
 pub use extension::{BreakSignature, Extension, Reading, Span, Tack, Writing};
 pub use extension_two::ShownTack;
@@ -56,6 +51,5 @@ pub use judge_two::{judge_two, ConnectionTwo};
 pub use manage::{delete, inspect, start, Inspection, Outcome};
 pub use name::is_well_formed;
 pub use night::{read_call, replay, report, write_call, NotRecordable, Tally};
-pub use old::{is_sound_old, write_old};
 pub use pins::PinTable;
 pub use table::{is_sound, parse, Damage, AREA_LENGTH};

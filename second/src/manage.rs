@@ -1,7 +1,6 @@
 //! Deletion and inspection of a name, and starting a table.
 //!
-//! None of these touches the latest clock or the last sight of a key, except that
-//! starting clears all and deletion takes a record's last with it.
+//! None of these touches the latest clock, except that starting clears all.
 //! Deletion and inspection are the same for tables of both editions.
 
 use crate::answer::{
@@ -21,7 +20,7 @@ pub struct Outcome {
 }
 
 impl Outcome {
-    pub(crate) fn new(number: u8) -> Outcome {
+    fn new(number: u8) -> Outcome {
         let alert = alert_of(number);
         Outcome { number, alert }
     }
@@ -35,8 +34,6 @@ pub struct Inspection {
     pub floor: u8,
     pub initial: u32,
     pub end: u32,
-    /// When the key was last seen for this name.
-    pub last: u32,
     /// End minus the given clock: negative after the end, 0 at it.
     pub minutes_left: i64,
 }
@@ -49,7 +46,6 @@ impl Inspection {
             floor: 0,
             initial: 0,
             end: 0,
-            last: 0,
             minutes_left: 0,
         }
     }
@@ -108,7 +104,6 @@ fn look(area: &[u8], name: &[u8], clock: u64, second: bool) -> Result<Inspection
     Ok(Inspection {
         floor: key_record.floor,
         initial: name_record.initial.value(),
-        last: name_record.last.value(),
         ..inspection
     })
 }

@@ -50,18 +50,4 @@ impl Minutes {
     pub fn active_period_end(self, initial: Minutes) -> Minutes {
         self.plus(self.since(initial).min(Minutes::LONGEST_ACTIVE_PERIOD))
     }
-
-    /// The clock at which a pin made at `initial` got this end: the contrary of
-    /// `active_period_end`. Nothing if there is none, because the end is before
-    /// initial or the sum to be halved is odd.
-    pub fn clock_of_end(self, initial: Minutes) -> Option<Minutes> {
-        let longest = Minutes::LONGEST_ACTIVE_PERIOD.0;
-        if self.0.checked_sub(initial.0)? >= 2 * longest {
-            return Some(Minutes(self.0 - longest));
-        }
-        // Two late clocks have a sum of more than 32 bits, but half of it is no
-        // later than the later one.
-        let sum = u64::from(self.0) + u64::from(initial.0);
-        (sum % 2 == 0).then_some(Minutes((sum / 2) as u32))
-    }
 }

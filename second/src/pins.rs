@@ -83,11 +83,6 @@ impl PinTable {
         })
     }
 
-    /// The same records, to be changed.
-    pub(crate) fn name_records_mut(&mut self) -> impl Iterator<Item = &mut NameRecord> {
-        self.names.values_mut().flat_map(NameRecords::iter_mut)
-    }
-
     /// The first pin of a name in any spelling, in edition one its only pin:
     /// the name record and the key record it stands on.
     pub fn pin(&self, name: &[u8]) -> Option<(&NameRecord, &KeyRecord)> {
@@ -130,26 +125,15 @@ impl PinTable {
         }
     }
 
-    /// Records the sight of the key, shown for this name, in the name's pin to
-    /// it, if any; the key's other names are not seen.
-    pub(crate) fn see(&mut self, name: &FoldedName, key: &PublicKey, clock: Minutes) {
-        if let Some(record) = self.record_on(name, key) {
-            record.last = clock;
-        }
-    }
-
     /// Activates the name's pin to the key, or extends its active period.
     pub(crate) fn activate(&mut self, name: &FoldedName, key: &PublicKey, clock: Minutes) {
-        if let Some(record) = self.record_on(name, key) {
-            record.end = Some(clock.active_period_end(record.initial));
+        let key_slot = self.key_slots.get(key).copied();
+        let records = self.names.get_mut(name.bytes()).into_iter();
+        for record in records.flat_map(NameRecords::iter_mut) {
+            if Some(record.key_slot) == key_slot {
+                record.end = Some(clock.active_period_end(record.initial));
+            }
         }
-    }
-
-    /// The name's record on this key; no name has two on one key.
-    fn record_on(&mut self, name: &FoldedName, key: &PublicKey) -> Option<&mut NameRecord> {
-        let key_slot = *self.key_slots.get(key)?;
-        let mut records = self.names.get_mut(name.bytes())?.iter_mut();
-        records.find(|record| record.key_slot == key_slot)
     }
 
     /// Edition one: makes a pin of the name to a key other than its present one,
@@ -185,8 +169,7 @@ impl PinTable {
         Ok(())
     }
 
-    /// A new pin has no end, and its last is its initial. A recorded key keeps
-    /// its floor.
+    /// A new pin has no end. A recorded key keeps its floor.
     fn put_pin(
         &mut self,
         name: &FoldedName,
@@ -203,7 +186,6 @@ impl PinTable {
             key_slot: slots.key,
             initial: clock,
             end: None,
-            last: clock,
         };
         self.put_name(name.bytes(), record);
     }

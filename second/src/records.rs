@@ -26,9 +26,6 @@ pub struct NameRecord {
     pub key_slot: KeySlot,
     pub initial: Minutes,
     pub end: Option<Minutes>,
-    /// "The clock of the latest call with a verdict, for this name, that showed
-    /// the key, activation or not"; at creation the initial.
-    pub last: Minutes,
 }
 
 impl NameRecord {

@@ -22,10 +22,6 @@ pub const AREA_LENGTH: usize = FIRST_NAME_SLOT + NAME_SLOTS * NAME_SLOT_LENGTH;
 const EDITION_AT: usize = 4;
 /// Where the key stands in a key slot.
 const KEY_AT: usize = 8;
-/// Where the minutes stand in a name slot.
-const INITIAL_AT: usize = 4;
-const END_AT: usize = 8;
-const LAST_AT: usize = 12;
 /// Where the name, padded with zeros, stands in a name slot.
 const NAME_AT: usize = 16;
 const NAME_PADDED_END: usize = NAME_AT + LONGEST_NAME;
@@ -44,7 +40,6 @@ pub enum Damage {
     KeyWithoutName,
     NameUsedNeitherZeroNorOne,
     FreeNameSlotNotZero,
-    /// In the old sense, where a name slot has no last.
     NameFillNotZero,
     NameMalformed,
     NamePaddingNotZero,
@@ -60,8 +55,6 @@ pub enum Damage {
     AbsentEndNotZero,
     EndBeforeInitial,
     EndTooLate,
-    LastBeforeInitial,
-    LastAfterLatest,
 }
 
 impl Damage {
@@ -78,17 +71,8 @@ pub fn is_sound(area: &[u8]) -> bool {
     parse(area).is_ok()
 }
 
-/// What a sense of soundness asks of a record's last in a table with this latest.
-/// It gives the last clock at which the record can have got its end.
-pub(crate) type LastRule = fn(&NameRecord, Minutes) -> Result<Minutes, Damage>;
-
 /// The records in the area, or the first rule found broken.
 pub fn parse(area: &[u8]) -> Result<PinTable, Damage> {
-    parse_by(area, last_was_seen)
-}
-
-/// The same in either sense; the rule for last is all that differs.
-pub(crate) fn parse_by(area: &[u8], last_rule: LastRule) -> Result<PinTable, Damage> {
     require(area.len() == AREA_LENGTH, Damage::AreaLengthWrong)?;
     let (header, slots) = area.split_at(HEADER_LENGTH);
     let (key_slots, name_slots) = slots.split_at(FIRST_NAME_SLOT - HEADER_LENGTH);
@@ -98,7 +82,7 @@ pub(crate) fn parse_by(area: &[u8], last_rule: LastRule) -> Result<PinTable, Dam
         parse_key_slot(&mut table, KeySlot(index), slot)?;
     }
     for (index, slot) in name_slots.chunks_exact(NAME_SLOT_LENGTH).enumerate() {
-        parse_name_slot(&mut table, NameSlot(index), slot, last_rule)?;
+        parse_name_slot(&mut table, NameSlot(index), slot)?;
     }
     require(table.every_key_has_a_name(), Damage::KeyWithoutName)?;
     Ok(table)
@@ -128,12 +112,7 @@ fn parse_key_slot(table: &mut PinTable, index: KeySlot, slot: &[u8]) -> Result<(
     require(table.put_key(index, key, slot[1]), Damage::KeyTwice)
 }
 
-fn parse_name_slot(
-    table: &mut PinTable,
-    index: NameSlot,
-    slot: &[u8],
-    last_rule: LastRule,
-) -> Result<(), Damage> {
+fn parse_name_slot(table: &mut PinTable, index: NameSlot, slot: &[u8]) -> Result<(), Damage> {
     match slot[0] {
         0 => return require(is_zero(slot), Damage::FreeNameSlotNotZero),
         1 => {}
@@ -142,15 +121,15 @@ fn parse_name_slot(
     let key_slot = KeySlot(usize::from(slot[1]));
     let has_key = table.key_record(key_slot).is_some();
     require(has_key, Damage::NameOnFreeKeySlot)?;
+    require(is_zero(&slot[12..NAME_AT]), Damage::NameFillNotZero)?;
     let name = parse_name(slot)?;
+    let (initial, end) = parse_active_period(slot, table.latest())?;
     let record = NameRecord {
         slot: index,
         key_slot,
-        initial: field(slot, INITIAL_AT),
-        end: parse_end(slot)?,
-        last: field(slot, LAST_AT),
+        initial,
+        end,
     };
-    check_minutes(&record, table.latest(), last_rule)?;
     if table.put_name(name, record) {
         Ok(())
     } else {
@@ -181,38 +160,25 @@ fn parse_name(slot: &[u8]) -> Result<&[u8], Damage> {
     Ok(name)
 }
 
-fn parse_end(slot: &[u8]) -> Result<Option<Minutes>, Damage> {
-    let end = field(slot, END_AT);
+fn parse_active_period(slot: &[u8], latest: Minutes) -> Result<(Minutes, Option<Minutes>), Damage> {
+    let (initial, end) = (field(slot, 4), field(slot, 8));
+    require(initial <= latest, Damage::InitialAfterLatest)?;
     match slot[3] {
         0 => {
             require(end == Minutes::ZERO, Damage::AbsentEndNotZero)?;
-            Ok(None)
+            Ok((initial, None))
         }
-        1 => Ok(Some(end)),
+        1 => {
+            let last_end = latest.plus(Minutes::LONGEST_ACTIVE_PERIOD);
+            require(end >= initial, Damage::EndBeforeInitial)?;
+            require(end <= last_end, Damage::EndTooLate)?;
+            Ok((initial, Some(end)))
+        }
         _ => Err(Damage::EndPresentNeitherZeroNorOne),
     }
 }
 
-fn check_minutes(record: &NameRecord, latest: Minutes, last_rule: LastRule) -> Result<(), Damage> {
-    require(record.initial <= latest, Damage::InitialAfterLatest)?;
-    let last_sight = last_rule(record, latest)?;
-    let Some(end) = record.end else {
-        return Ok(());
-    };
-    let latest_end = last_sight.plus(Minutes::LONGEST_ACTIVE_PERIOD);
-    require(end >= record.initial, Damage::EndBeforeInitial)?;
-    require(end <= latest_end, Damage::EndTooLate)
-}
-
-/// "Soundness now asks for initial ≤ last ≤ latest, and end at most last +
-/// 43,200."
-fn last_was_seen(record: &NameRecord, latest: Minutes) -> Result<Minutes, Damage> {
-    require(record.last >= record.initial, Damage::LastBeforeInitial)?;
-    require(record.last <= latest, Damage::LastAfterLatest)?;
-    Ok(record.last)
-}
-
-pub(crate) fn require(holds: bool, damage: Damage) -> Result<(), Damage> {
+fn require(holds: bool, damage: Damage) -> Result<(), Damage> {
     if holds {
         Ok(())
     } else {
@@ -267,9 +233,8 @@ fn write_name_slot(name: &[u8], record: &NameRecord, slot: &mut [u8]) {
     slot[1] = record.key_slot.0 as u8;
     slot[2] = name.len() as u8;
     slot[3] = u8::from(record.end.is_some());
+    slot[4..8].copy_from_slice(&record.initial.to_field());
     let end = record.end.unwrap_or(Minutes::ZERO);
-    slot[INITIAL_AT..END_AT].copy_from_slice(&record.initial.to_field());
-    slot[END_AT..LAST_AT].copy_from_slice(&end.to_field());
-    slot[LAST_AT..NAME_AT].copy_from_slice(&record.last.to_field());
+    slot[8..12].copy_from_slice(&end.to_field());
     slot[NAME_AT..NAME_PADDED_END][..name.len()].copy_from_slice(name);
 }

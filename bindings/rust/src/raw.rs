@@ -48,13 +48,13 @@ pub struct Judgement {
     pub no_room: bool,
 }
 
-/// Deletion: 3, 4, or 10 to 12. Starting: 7 or 10. Converting: 31, 10 or 11.
+/// Deletion: 3, 4, or 10 to 12. Starting: 7 or 10.
 #[repr(C)]
 #[derive(Debug, Clone, Copy, PartialEq, Eq)]
 pub struct Outcome {
-    /// 3, 4, 7, 10 to 12, or 31.
+    /// 3, 4, 7, or 10 to 12.
     pub number: u8,
-    /// No alert goes with deletion, starting or converting: 0.
+    /// No alert goes with deletion or starting: 0.
     pub alert: u8,
 }
 
@@ -72,8 +72,6 @@ pub struct Inspection {
     pub initial: u32,
     /// When the pin ends, in minutes since 1970.
     pub end: u32,
-    /// The clock of the latest call with a verdict, for the name, that showed the key.
-    pub last: u32,
     /// The end minus the given clock.
     pub minutes_left: i64,
 }
@@ -204,7 +202,6 @@ mod library {
             second: bool,
         ) -> Inspection;
         pub fn tack_start(table: *mut u8, table_length: usize, edition_two: bool) -> Outcome;
-        pub fn tack_convert(table: *mut u8, table_length: usize) -> Outcome;
         pub fn tack_call_write(
             clock: u64,
             name: *const u8,
@@ -367,12 +364,6 @@ pub fn inspect(table: &[u8], name: &[u8], clock: u64, second: bool) -> Inspectio
 pub fn start(table: &mut [u8], edition_two: bool) -> Outcome {
     // SAFETY: the pointer and the length are those of one slice.
     unsafe { library::tack_start(table.as_mut_ptr(), table.len(), edition_two) }
-}
-
-/// `tack_convert`.
-pub fn convert(table: &mut [u8]) -> Outcome {
-    // SAFETY: the pointer and the length are those of one slice.
-    unsafe { library::tack_convert(table.as_mut_ptr(), table.len()) }
 }
 
 /// `tack_call_write`.

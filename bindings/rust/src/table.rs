@@ -1,4 +1,4 @@
-//! The pin table: connections judged, names deleted and inspected, tables of an earlier version converted.
+//! The pin table: connections judged, names deleted and inspected.
 //!
 //! A clinic's server shows a tack, enabled. The first connection makes a pin, the next one activates it for as long as it has stood,
 //! and until it ends a server without the key is contradicted:
@@ -28,7 +28,7 @@
 //! // After 600 minutes it is activated for 600 more.
 //! assert_eq!(pins.judge(&first.with_clock(1600))?.verdict, Verdict::Confirmed);
 //! let record = pins.inspect(first.name, 1600)?.expect("it is recorded");
-//! assert_eq!((record.initial, record.end, record.last, record.minutes_left), (1000, Some(2200), 1600, Some(600)));
+//! assert_eq!((record.initial, record.end, record.minutes_left), (1000, Some(2200), Some(600)));
 //!
 //! // Another key, or none at all, contradicts it: the gateway sends alert 49, access_denied.
 //! let impostor = first.with_clock(2000).with_extension(&another);
@@ -70,7 +70,7 @@ const EDITION_AT: usize = 4;
 /// A name is spelled in letters of either case: every call takes A-Z as a-z, and the table keeps small letters only.
 ///
 /// A `PinTable` is always sound, so [`Refusal::AreaLength`] and [`Refusal::Damaged`] come from
-/// [`from_bytes`](PinTable::from_bytes) and [`from_old_bytes`](PinTable::from_old_bytes) alone.
+/// [`from_bytes`](PinTable::from_bytes) alone.
 ///
 /// A school has two names under one key. It revokes a generation, and later the key itself, by a break signature:
 ///
@@ -159,40 +159,6 @@ impl PinTable {
             return Err(Refused::new(answer.number, answer.alert));
         }
         let area = Box::try_from(bytes.to_vec()).expect("the library refuses every other length");
-        Ok(PinTable { area })
-    }
-
-    /// A table from bytes that were kept before its records had a [last sight](Inspection::last): each gets the clock at which its
-    /// end was set, or of its making where it has no end. 10 and 11 are the refusals; 11 is also an end that judging does not set.
-    ///
-    /// ```
-    /// use tack::table::{PinTable, Refusal};
-    ///
-    /// // A table of edition one with one pin of `a.b`, made at 1000 and activated at 1600 until 2200, as it was kept before.
-    /// let mut bytes = PinTable::new().as_bytes().to_vec();
-    /// bytes[..4].copy_from_slice(&1600u32.to_be_bytes());
-    /// bytes[8..10].copy_from_slice(&[1, 3]);
-    /// bytes[16..80].fill(0x11);
-    /// bytes[4616..4620].copy_from_slice(&[1, 0, 3, 1]);
-    /// bytes[4620..4624].copy_from_slice(&1000u32.to_be_bytes());
-    /// bytes[4624..4628].copy_from_slice(&2200u32.to_be_bytes());
-    /// bytes[4632..4635].copy_from_slice(b"a.b");
-    ///
-    /// assert_eq!(PinTable::from_bytes(&bytes).unwrap_err().refusal(), Refusal::Damaged);
-    /// let pins = PinTable::from_old_bytes(&bytes)?;
-    /// assert_eq!(pins.inspect(b"a.b", 1600)?.expect("it is recorded").last, 1600);
-    ///
-    /// // It is converted once.
-    /// assert_eq!(PinTable::from_old_bytes(pins.as_bytes()).unwrap_err().refusal(), Refusal::Damaged);
-    /// # Ok::<(), tack::table::Refused>(())
-    /// ```
-    pub fn from_old_bytes(bytes: &[u8]) -> Result<PinTable, Refused> {
-        let mut area = bytes.to_vec();
-        let answer = raw::convert(&mut area);
-        if answer.number != 31 {
-            return Err(Refused::new(answer.number, answer.alert));
-        }
-        let area = Box::try_from(area).expect("the library refuses every other length");
         Ok(PinTable { area })
     }
 
@@ -336,7 +302,6 @@ fn inspection(answer: raw::Inspection) -> Result<Option<Inspection>, Refused> {
         floor: answer.floor,
         initial: answer.initial,
         end: has_end.then_some(answer.end),
-        last: answer.last,
         minutes_left: has_end.then_some(answer.minutes_left),
     }))
 }

@@ -84,7 +84,7 @@ impl AlikeTwo {
         judged(&mut area.clone(), first, &[other, other], 24)?;
         self.0.add(Compared::EqualKeys);
         let mut record = area.record(first);
-        (record.end, record.last) = (Some(LATEST + 1), LATEST);
+        record.end = Some(LATEST + 1);
         area.put_record(first, record);
         judged(&mut area, first, &[other], 2)?;
         self.0.add(Compared::UnlikeKey);

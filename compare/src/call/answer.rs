@@ -11,7 +11,6 @@ pub struct Answer {
     pub floor: u8,
     pub initial: u32,
     pub end: u32,
-    pub last: u32,
     pub minutes_left: i64,
 }
 
@@ -48,7 +47,6 @@ macro_rules! answers {
                     floor: inspection.floor,
                     initial: inspection.initial,
                     end: inspection.end,
-                    last: inspection.last,
                     minutes_left: inspection.minutes_left,
                 }
             }

@@ -1,6 +1,6 @@
 //! A connection of edition two, as each program takes it.
 
-use crate::wire::{self, Tack, HASH};
+use crate::wire::HASH;
 use tack::raw;
 
 #[derive(Debug, Clone)]
@@ -38,14 +38,6 @@ impl ConnectionTwo {
             extension_came: true,
             extension,
             ..self
-        }
-    }
-
-    /// The tacks of a well-formed extension, if one came, each with whether it is enabled.
-    pub fn tacks(&self) -> Vec<(Tack, bool)> {
-        match self.extension_came {
-            true => wire::tacks_of_two(&self.extension),
-            false => vec![],
         }
     }
 

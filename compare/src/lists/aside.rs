@@ -22,7 +22,7 @@ pub fn changed(area: &Area, random: &mut Random) -> Vec<u8> {
 }
 
 /// A byte of the header or of any slot, more often one that is used.
-pub fn place(area: &Area, random: &mut Random) -> usize {
+fn place(area: &Area, random: &mut Random) -> usize {
     let (keys, names) = (area.used_keys(), area.used_names());
     match random.below(4) {
         0 => random.below(8),

@@ -58,7 +58,7 @@ impl Faults {
         }
         let places = [Unexpired::OfFirst, Unexpired::OfSecond];
         for (tack, place) in judged.tacks.iter().zip(places) {
-            let is_next = u64::from(tack.expiration) == judged.connection.clock.saturating_add(1);
+            let is_next = u64::from(tack.expiration) == judged.connection.clock + 1;
             if is_next && judged.has_verdict() {
                 self.unexpired.add(place);
             }

@@ -154,7 +154,6 @@ pub fn table(edition: Edition) -> Area {
             key_slot: slot,
             initial: CLOCK,
             end: None,
-            last: CLOCK,
         };
         area.put_pin(slot, record, name);
     }

@@ -6,9 +6,8 @@ use crate::make::{generation_3, Pins};
 use crate::wire;
 use tack::table::Edition;
 
-/// When the records of the tables were made, when their keys were last seen, and the clock of the connections.
+/// When the records of the tables were made, and the clock of the connections.
 const MADE: u32 = 1_000;
-const SEEN: u32 = 40_000;
 const CLOCK: u32 = 60_000;
 
 const NAME: &[u8] = b"own.example";
@@ -81,7 +80,6 @@ fn table(names: usize, keys: usize, own: Own) -> Area {
         key_slot,
         initial: MADE,
         end,
-        last: SEEN,
     };
     let end = (own == Own::Active).then_some(CLOCK + 100);
     for (slot, key_slot) in own_slots.into_iter().zip(&key_slots) {

@@ -86,8 +86,7 @@ impl MadeCounts {
         }
         self.add_key(before, pin);
         let is_new = u64::from(pin.record.initial) == judged.connection.clock;
-        let is_seen_once = pin.record.last == pin.record.initial;
-        match is_new && is_seen_once && pin.record.end.is_none() {
+        match is_new && pin.record.end.is_none() {
             true => Ok(()),
             false => Err(format!(
                 "the record in name slot {} is no new one",

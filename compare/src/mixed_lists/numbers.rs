@@ -12,7 +12,6 @@ pub struct Numbers {
     inspect: Tally,
     inspect_second: Tally,
     start: Tally,
-    convert: Tally,
 }
 
 impl Numbers {
@@ -24,7 +23,6 @@ impl Numbers {
             Call::Inspect { second: false, .. } => &mut self.inspect,
             Call::Inspect { second: true, .. } => &mut self.inspect_second,
             Call::Start(_) => &mut self.start,
-            Call::Convert => &mut self.convert,
         };
         tally.add(number);
     }
@@ -43,7 +41,6 @@ impl Numbers {
             .report(&of("inspection of the first record"), &inspecting)?;
         self.inspect_second
             .report(&of("inspection of the second record"), &inspecting)?;
-        self.start.report(&of("starting"), &[7, 10])?;
-        self.convert.report(&of("converting"), &[10, 11, 31])
+        self.start.report(&of("starting"), &[7, 10])
     }
 }

@@ -70,10 +70,10 @@ impl Records {
         }
         let now = judged.pins_after().into_iter();
         let now = now.filter(|now| now.key == pin.key).collect::<Vec<Pin>>();
-        match now == expected(judged, pin, due) {
+        match now == expected(judged.connection.clock, pin, due) {
             true => Ok(()),
             false => Err(format!(
-                "the record in name slot {} ({kind:?}) is not {due:?}, or its last is wrong",
+                "the record in name slot {} ({kind:?}) is not {due:?}",
                 pin.name_slot
             )),
         }
@@ -103,18 +103,15 @@ fn kind(judged: &Judged, pin: &Pin) -> (Record, Due) {
     }
 }
 
-/// The name's records with the pin's key after the call. A key that is shown is seen, whatever is due to its record.
-fn expected(judged: &Judged, pin: &Pin, due: Due) -> Vec<Pin> {
+/// The name's records with the pin's key after the call.
+fn expected(clock: u64, pin: &Pin, due: Due) -> Vec<Pin> {
     let mut pin = *pin;
-    // A clock with a verdict has 32 bits.
-    let clock = judged.connection.clock as u32;
-    if judged.tack_of(&pin.key).is_some() {
-        pin.record.last = clock;
-    }
     match due {
         Due::Removed => return vec![],
         Due::Left => {}
         Due::Extended => {
+            // A clock with a verdict has 32 bits.
+            let clock = clock as u32;
             pin.record.end = Some(clock + LONGEST.min(clock - pin.record.initial));
         }
     }

@@ -14,10 +14,8 @@ const OWN: [usize; 2] = [0, 1];
 const RECORDED: usize = 2;
 const NEW: usize = 3;
 
-/// When the records of the name's keys were made: the second is as old as makes the longest active period. Each key was last seen
-/// some minutes later.
+/// When the records of the name's keys were made: the second is as old as makes the longest active period.
 const MADE: [u32; 2] = [CLOCK - 100, CLOCK - LONGEST];
-const SEEN_AFTER: u32 = 50;
 
 /// The state of a record: without an end, ended just now, active.
 const ENDS: [Option<u32>; 3] = [None, Some(CLOCK), Some(CLOCK + 1)];
@@ -80,7 +78,6 @@ fn put(area: &mut Area, slot: usize, key: usize, end: Option<u32>, name: &[u8]) 
         key_slot: key,
         initial: MADE[key % 2],
         end,
-        last: MADE[key % 2] + SEEN_AFTER,
     };
     area.put_pin(slot, record, name);
 }

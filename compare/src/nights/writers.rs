@@ -74,13 +74,13 @@ impl Writers {
         let needed = made.as_ref().map_or(0, Vec::len);
         let less = needed.saturating_sub(1);
         for space in [0, less, needed, needed + 1, LONGEST_CALL] {
-            self.write_into(call, made.as_deref(), space)?;
+            self.into_space(call, made.as_deref(), space)?;
         }
         Ok(())
     }
 
     /// One call by the proved writer into an output of so many bytes, each of which is compared.
-    fn write_into(
+    fn into_space(
         &mut self,
         call: &Connection,
         made: Option<&[u8]>,

@@ -1,17 +1,13 @@
 -- Big-endian numbers of every width: written and read back, read and written back.
 use mathlib.Core.Path.{◌≡◌, refl, sym, ap, ◌∙◌}
-use mathlib.Core.Bool.{true}
 use mathlib.Core.List.{List, [], ◌∷◌, ◌++◌, append_assoc, append-nil}
 use Prim.Native.Nat.{ℕ, zero, suc, ◌+◌, ◌*◌, ◌/◌, ◌%◌, ◌^◌, ◌≤◌, ◌<◌}
 use native.Mathlib.Nat.{pow-suc, div-add-mod, div-lt_iff_lt-mul, div-div-eq-div-mul, add-zero}
 use native.Mathlib.Omega.{arith}
-use lib.Dec.{eqb}
 use lib.ListN.{length, take, drop, get_or, length-append, take-append-drop}
 use lib.Seq.{drop-cons}
 use native.Mathlib.Numerals.{add-one}
-use borrow.Author.Tests.{eqb-true, eq-eqb}
-use Rattle.octets.specs.Octets.{Bytes, part, big_endian, number, number_after, all_zero}
-use Rattle.octets.proofs.Tests.{both_ways, and_left, and_right, and_both}
+use Rattle.octets.specs.Octets.{Bytes, part, big_endian, number, number_after}
 
 -- what stands in front of bytes, what stands behind, and a part
 pub bytes-front : (p r : List ℕ) → Bytes (p ++ r) → Bytes p
@@ -48,27 +44,6 @@ number-big_endian (suc w) v h =
     number-snoc (big_endian w (v / 256)) (v % 256) 0
     ∙ ap (λ (k : ℕ). 256 * k + v % 256) (number-big_endian w (v / 256) ((div-lt_iff_lt-mul (omega arith)).1 less))
     ∙ div-add-mod v 256
-
--- bytes stand for 0 exactly if each is zero
-zeros-after : (bs : List ℕ) → all_zero bs ≡ true → number_after 0 bs ≡ 0
-unfolding number_after all_zero
-zeros-after [] e = refl
-zeros-after (b ∷ bs) e =
-    let none : 256 * 0 + b ≡ 0 = omega (arith, eqb-true b 0 (and_left (eqb b 0) (all_zero bs) e)) in
-    ap (λ (n : ℕ). number_after n bs) none ∙ zeros-after bs (and_right (eqb b 0) (all_zero bs) e)
-
-after-zeros : (bs : List ℕ) (n : ℕ) → number_after n bs ≡ 0 → (n ≡ 0) × (all_zero bs ≡ true)
-unfolding number_after all_zero
-after-zeros [] n e = (e, refl)
-after-zeros (b ∷ bs) n e =
-    let h : (256 * n + b ≡ 0) × (all_zero bs ≡ true) = after-zeros bs (256 * n + b) e in
-    (omega (arith, h.0), and_both (eqb b 0) (all_zero bs) (eq-eqb b 0 (omega (arith, h.0))) h.1)
-
-pub zero_number : (bs : List ℕ) → eqb (number bs) 0 ≡ all_zero bs
-unfolding number
-zero_number bs =
-    both_ways (eqb (number bs) 0) (all_zero bs)
-    (λ e. (after-zeros bs 0 (eqb-true (number bs) 0 e)).1) (λ e. eq-eqb (number bs) 0 (zeros-after bs e))
 
 digits : (n b : ℕ) → b < 256 → ((256 * n + b) / 256 ≡ n) × ((256 * n + b) % 256 ≡ b)
 digits n b h = (omega arith, omega arith)

@@ -1,4 +1,4 @@
--- The papers' number and the values for every case of an answer: document 01, 'What each number says', and document 02, Q-3 and Q-8.
+-- The papers' number and the values for every case of an answer: document 01, 'What each number says', and document 02, Q-3.
 use Rattle.std.specs.Prelude.{Bool, true, false, ℕ, pos}
 use Rattle.std.proofs.Math.Option.{Option, none, some}
 use Rattle.pin_model.specs.Calls.{Answer, answer_of, plain}
@@ -17,8 +17,6 @@ use Rattle.pin_answers.specs.declared.Inspection.{Inspection}
 use Rattle.pin_answers.specs.declared.Inspection.TheVariants as inspection
 use Rattle.pin_answers.specs.declared.Starting.{Starting}
 use Rattle.pin_answers.specs.declared.Starting.TheVariants as starting
-use Rattle.pin_answers.specs.declared.Conversion.{Conversion}
-use Rattle.pin_answers.specs.declared.Conversion.TheVariants as conversion
 
 abbrev pub refusal_number : Refusal → ℕ
 refusal_number AreaLength = 10
@@ -65,18 +63,14 @@ deletion_answer deletion.NotRecorded = plain 4
 deletion_answer (deletion.Refused r) = plain (refusal_number r)
 
 abbrev pub inspection_answer : Inspection → Answer
-inspection_answer (inspection.WithoutEnd floor initial last) = answer_of false 5 false floor initial 0 last (pos 0)
-inspection_answer (inspection.WithEnd floor initial end last left) = answer_of false 6 false floor initial end last left
+inspection_answer (inspection.WithoutEnd floor initial) = answer_of false 5 false floor initial 0 (pos 0)
+inspection_answer (inspection.WithEnd floor initial end left) = answer_of false 6 false floor initial end left
 inspection_answer inspection.NotRecorded = plain 4
 inspection_answer (inspection.Refused r) = plain (refusal_number r)
 
 abbrev pub starting_answer : Starting → Answer
 starting_answer starting.Started = plain 7
 starting_answer (starting.Refused r) = plain (refusal_number r)
-
-abbrev pub conversion_answer : Conversion → Answer
-conversion_answer conversion.Converted = plain 31
-conversion_answer (conversion.Refused r) = plain (refusal_number r)
 
 -- the number of each answer
 abbrev pub judgement_number : Judgement → ℕ
@@ -87,6 +81,3 @@ deletion_number d = (deletion_answer d).number
 
 abbrev pub starting_number : Starting → ℕ
 starting_number s = (starting_answer s).number
-
-abbrev pub conversion_number : Conversion → ℕ
-conversion_number c = (conversion_answer c).number

@@ -1,7 +1,7 @@
 // What the store answers: an enum for each kind of call, and the papers' numbers and alerts for every case.
 ghost use Rattle.std.specs.Prelude.{◌≡◌};
 ghost use Rattle.tack_extension.specs.Answers.{alert_of, alert_of_two, bad_certificate};
-ghost use Rattle.pin_answers.specs.Numbers.{refusal_number, verdict_number, judgement_number, deletion_number, starting_number, conversion_number};
+ghost use Rattle.pin_answers.specs.Numbers.{refusal_number, verdict_number, judgement_number, deletion_number, starting_number};
 
 // The refusals, by their numbers. 17 is edition one's alone, 24 edition two's.
 #[derive(Drop)]
@@ -56,13 +56,11 @@ pub enum Inspection {
     WithoutEnd {
         floor: u8,
         initial: u32,
-        last: u32,
     },
     WithEnd {
         floor: u8,
         initial: u32,
         end: u32,
-        last: u32,
         minutes_left: i64,
     },
     NotRecorded,
@@ -72,12 +70,6 @@ pub enum Inspection {
 #[derive(Drop)]
 pub enum Starting {
     Started,
-    Refused(Refusal),
-}
-
-#[derive(Drop)]
-pub enum Conversion {
-    Converted,
     Refused(Refusal),
 }
 
@@ -142,15 +134,6 @@ pub fn starting_number(s: Starting) -> u8
     match s {
         Starting::Started => 7,
         Starting::Refused(r) => refusal_number(r),
-    }
-}
-
-pub fn conversion_number(c: Conversion) -> u8
-    ensures { result ≡ conversion_number c }
-{
-    match c {
-        Conversion::Converted => 31,
-        Conversion::Refused(r) => refusal_number(r),
     }
 }
 

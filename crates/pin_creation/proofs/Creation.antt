@@ -86,11 +86,11 @@ module _ (name tack : List ℕ) (clock : ℕ) (t : Table) {d : List ℕ} (g : Ho
         (subst (λ (key : List ℕ). Fresh t.two name key n t.names) (sym (key-held (public_key tack) (get_or (keyed_for tack t.keys) k none) its)) fresh),
   )
 
-  pub record-stored : {a : List ℕ} → Holds a (with_name (decode d) n (some (name_record name (key_at (get_or (decode d).keys k none)) clock none clock)))
+  pub record-stored : {a : List ℕ} → Holds a (with_name (decode d) n (some (name_record name (key_at (get_or (decode d).keys k none)) clock none)))
       → Holds a (with_name (with_keys (keyed_for tack t.keys) t) n (some (new_name name clock tack)))
   record-stored {a} w =
-      with-names (ap (λ (key : List ℕ). set t.names n (some (name_record name key clock none clock))) (key-held (public_key tack) (get_or (keyed_for tack t.keys) k none) its))
-      (subst (λ (u : Table). Holds a (with_name u n (some (name_record name (key_at (get_or u.keys k none)) clock none clock)))) (holds-decode g) w)
+      with-names (ap (λ (key : List ℕ). set t.names n (some (name_record name key clock none))) (key-held (public_key tack) (get_or (keyed_for tack t.keys) k none) its))
+      (subst (λ (u : Table). Holds a (with_name u n (some (name_record name (key_at (get_or u.keys k none)) clock none)))) (holds-decode g) w)
 
 module _ (name tack : List ℕ) (clock : ℕ) (t : Table) (sound : sound_table (settled_at clock t) ≡ true) (room : room_for name tack t ≡ true) where
   abbrev new : NameRecord

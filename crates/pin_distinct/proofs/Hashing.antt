@@ -8,17 +8,16 @@ use native.Mathlib.Omega.{arith}
 use lib.ListN.{length, replicate}
 use mir.Syntax.{w64}
 use mir.Val.{Fits}
-use Rattle.octets.specs.Octets.{part}
+use Rattle.octets.specs.Octets.{part, all_zero}
 use Rattle.octets.specs.Words.{word}
 use Rattle.octets.proofs.Tests.{and_left, and_right}
 use Rattle.octets.proofs.Parts.{part_length, part-add}
 use Rattle.octets.proofs.Equal.{zeros-are}
 use Rattle.octets.proofs.Search.{every-at}
 use Rattle.host_name.specs.Name.{well_formed}
-use Rattle.pin_model.specs.Layout.{latest_in, name_slot, key_number, name_length, name_in}
+use Rattle.pin_model.specs.Layout.{latest_in, name_slot, is_used, key_number, name_length, name_in}
 use Rattle.pin_model.specs.Sound.{name_formed, name_right, name_shaped, names_shaped}
 use Rattle.pin_distinct.specs.Hashes.{with_word, mark_of, words_hash, padded, name_mark, pin_mark}
-use Rattle.pin_distinct.specs.Pins.{NamesFormed}
 use Rattle.pin_distinct.proofs.SlotPairs.{name-sized}
 
 pub hash-none : (p : List ℕ) → 0 ≡ words_hash p (0 / 8)
@@ -60,12 +59,13 @@ module _ {two : Bool} (s : List ℕ) {m : ℕ} (e : m ≡ name_mark (name_in s))
   unfolding pin_mark
   by-pin o f = rw o (ap₂ (λ (n j : ℕ). (n + 127 * j) % 8192) e f)
 
--- shaped names are formed, in either sense
-pub shaped-formed : (old : Bool) (b : List ℕ) → names_shaped old b ≡ true → NamesFormed b
+-- a used slot of shaped names
+pub used-formed : (b : List ℕ) (n : ℕ) → names_shaped b ≡ true → n < 128 → is_used (name_slot b n) ≡ true → name_formed (name_slot b n) ≡ true
 unfolding names_shaped name_shaped name_right
-shaped-formed old b h n l u =
-    let s : name_shaped old (latest_in b) (name_slot b n) ≡ true = every-at (λ m. name_shaped old (latest_in b) (name_slot b m)) 128 n h l in
-    and_left (name_formed (name_slot b n)) _ (rw u at s)
+used-formed b n h l u =
+    let s : name_shaped (latest_in b) (name_slot b n) ≡ true = every-at (λ m. name_shaped (latest_in b) (name_slot b m)) 128 n h l in
+    let r : name_right (latest_in b) (name_slot b n) ≡ true = rw u at s in
+    and_left (name_formed (name_slot b n)) _ (and_right (all_zero (part (name_slot b n) 12 4)) _ r)
 
 -- a rotated word has 64 bits
 rotated-below : (x y : ℕ) → x < 2251799813685248 → y < 8192 → x * 8192 + y < 18446744073709551616

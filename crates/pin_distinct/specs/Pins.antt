@@ -1,13 +1,9 @@
 -- 'No name too often' in two parts, as the code looks for it.
 -- Only functions below the open ones cite it: a reader of the open contracts can skip it.
-use Rattle.std.specs.Prelude.{ℕ, ◌<◌, ◌≡◌, Bool, true, cond, not, List}
+use Rattle.std.specs.Prelude.{ℕ, Bool, cond, not, List}
 use Rattle.octets.specs.Search.{every}
-use Rattle.pin_model.specs.Layout.{of_two, name_slot, is_used}
-use Rattle.pin_model.specs.Sound.{name_formed, name_twice, pin_twice, name_thrice}
-
--- what both senses of soundness ask of a used slot's name: equal names then have equal marks
-abbrev pub NamesFormed : List ℕ → Type 0
-NamesFormed b = (n : ℕ) → n < 128 → is_used (name_slot b n) ≡ true → name_formed (name_slot b n) ≡ true
+use Rattle.pin_model.specs.Layout.{of_two}
+use Rattle.pin_model.specs.Sound.{name_twice, pin_twice, name_thrice}
 
 -- a slot before slot n says what it says: its name, and in edition two its key
 unfoldable pub pin_again : Bool → List ℕ → ℕ → Bool

@@ -1,9 +1,9 @@
 // No key twice, and no name more often than its edition allows. Only where the mark of a slot was seen before is it compared with all
 // before it: so the answer is the same whatever the marks are, and a table whose marks differ takes one pass.
-ghost use Rattle.std.specs.Prelude.{◌≡◌, length};
+ghost use Rattle.std.specs.Prelude.{◌≡◌, true, length};
 ghost use Rattle.pin_model.specs.Layout.{area_length};
-ghost use Rattle.pin_model.specs.Sound.{keys_distinct, names_distinct};
-ghost use Rattle.pin_distinct.specs.Pins.{NamesFormed, pins_distinct, no_name_thrice};
+ghost use Rattle.pin_model.specs.Sound.{keys_distinct, names_shaped, names_distinct};
+ghost use Rattle.pin_distinct.specs.Pins.{pins_distinct, no_name_thrice};
 
 use crate::seen_marks::SEEN_WORDS;
 use crate::{key_repeats, marks, repeats, seen_marks};
@@ -36,7 +36,7 @@ pub fn keys_distinct(area: &[u8]) -> bool
 
 // No name twice in edition one, no name with its key twice in edition two.
 fn pins_distinct(area: &[u8]) -> bool
-    requires { (length area.now ≡ area_length) × NamesFormed area.now }
+    requires { (length area.now ≡ area_length) × (names_shaped area.now ≡ true) }
     ensures { result ≡ pins_distinct area.now }
 {
     let two = slots::is_two(area);
@@ -62,7 +62,7 @@ fn pins_distinct(area: &[u8]) -> bool
 
 // No name three times: only a mark that was seen twice before can be a third record's.
 fn no_name_thrice(area: &[u8]) -> bool
-    requires { (length area.now ≡ area_length) × NamesFormed area.now }
+    requires { (length area.now ≡ area_length) × (names_shaped area.now ≡ true) }
     ensures { result ≡ no_name_thrice area.now }
 {
     let mut seen = [0u64; SEEN_WORDS];
@@ -90,7 +90,7 @@ fn no_name_thrice(area: &[u8]) -> bool
 }
 
 pub fn names_distinct(area: &[u8]) -> bool
-    requires { (length area.now ≡ area_length) × NamesFormed area.now }
+    requires { (length area.now ≡ area_length) × (names_shaped area.now ≡ true) }
     ensures { result ≡ names_distinct area.now }
 {
     if !pins_distinct(area) {

@@ -1,5 +1,5 @@
--- E1 to E12, the spellings of Q-2, the expired tacks of Q-4, the disabled servers of Q-7 and the lasts of Q-8 hold: computed on the model's
--- tables, and carried over to bytes by the run.
+-- E1 to E12, the spellings of Q-2, the expired tacks of Q-4 and the disabled servers of Q-7 hold: computed on the model's tables, and
+-- carried over to bytes by the run.
 use mathlib.Core.Path.{◌≡◌, refl, ◌∙◌}
 use mathlib.Core.Bool.{false}
 use Rattle.octets.specs.Octets.{number, number_after}
@@ -7,7 +7,7 @@ use Rattle.tack_extension.specs.Extension.{tack_step, breaks_step, activation_st
 use Rattle.pin_model.specs.Layout.{joined, encode_key, encode_name, encode}
 use Rattle.pin_model.specs.Run.{area_of}
 use Rattle.pin_journal.proofs.Main.{area-run, answer-run}
-use Rattle.pin_examples.specs.Examples.{ReadingRight, Row, Right, after, Every, nothing, ◌also◌, e4, e4_area, e5, e5_inspected, e6, e7, e8, e8_inspected, e9, e10, e11, e12_at1000, e12_at1001, spelled_made, spelled_confirmed, spelled_contradicted, spelled_inspected, spelled_a_z, spelled_before_a, spelled_behind_z, expired_raises, expired_area, expired_revokes, expired_allows, expired_break, expired_break_inspected, expired_lower, expired_lower_inspected, expired_unrecorded, disabled_default, disabled_area, disabled_yes, disabled_keeps, disabled_keeps_inspected, yes_replaces, yes_replaces_inspected, last_disabled, last_disabled_inspected, last_other_name, last_other_name_inspected, last_other_key, last_other_key_inspected, reading_examples, spelled_examples, expired_examples, disabled_examples, last_examples, Examples}
+use Rattle.pin_examples.specs.Examples.{ReadingRight, Row, Right, after, Every, nothing, ◌also◌, e4, e4_area, e5, e5_inspected, e6, e7, e8, e8_inspected, e9, e10, e11, e12_at1000, e12_at1001, spelled_made, spelled_confirmed, spelled_contradicted, spelled_inspected, spelled_a_z, spelled_before_a, spelled_behind_z, expired_raises, expired_area, expired_revokes, expired_allows, expired_break, expired_break_inspected, expired_lower, expired_lower_inspected, expired_unrecorded, disabled_default, disabled_area, disabled_yes, disabled_keeps, disabled_keeps_inspected, yes_replaces, yes_replaces_inspected, reading_examples, spelled_examples, expired_examples, disabled_examples, Examples}
 use Rattle.pin_examples.proofs.Model.{model_answer}
 
 right : (r : Row) → model_answer false r.history r.call ≡ r.gives → Right r
@@ -101,12 +101,6 @@ yes-bytes : area_of false (after disabled_yes) ≡ e4_area
 unfolding model_answer encode joined encode_key encode_name e4_area
 yes-bytes = area-run false (after disabled_yes) ∙ refl
 
-lasts-right : Every Right last_examples
-unfolding model_answer
-lasts-right =
-    right last_disabled refl also right last_disabled_inspected refl also right last_other_name refl also right last_other_name_inspected refl
-    also right last_other_key refl also right last_other_key_inspected refl also nothing
-
 pub examples-hold : Examples
 examples-hold = record {
   readings = e1-e2-e3-right;
@@ -120,5 +114,4 @@ examples-hold = record {
   disabled = disabled-right;
   disabled_bytes = disabled-bytes;
   yes_bytes = yes-bytes;
-  lasts = lasts-right;
 }

@@ -8,7 +8,7 @@ use Rattle.pin_model.specs.Run.{area_of}
 use Rattle.pin_journal.proofs.TableRun.{table_answer, table_next}
 use Rattle.pin_journal.proofs.Main.{area-run, answer-run}
 use Rattle.pin_examples.specs.Examples.{Every, nothing, ◌also◌}
-use Rattle.pin_examples.specs.ExamplesTwo.{RowTwo, RightTwo, ExamplesTwo, after_two, moves, verdicts, refusals, editions, managed, move_made, move_pinned, move_both, move_both_pinned, move_both_pinned_area, move_alone_a, move_alone_b, move_enabled_b, move_too_early, move_done, move_back, move_back_later, move_next, contradicted_raises, contradicted_makes_none, both_raise, disabled_makes_none, disabled_goes, absent_goes, disabled_matches, disabled_at_end, bit_without_tack, further_bit, one_key, one_key_first, expired_at1000, expires_after999, expired_raises_none, generation_first, expired_first, hash_first, first_tack_first, first_revoked, second_revoked, revoked_last, started_one, started_two, one_on_two, one_on_two_first, e4_on_one, two_on_one, deletes_both, inspects_first, inspects_second, inspects_unseen, inspects_younger, inspects_older, inspects_missing, others, other_keys, other_pins, table_two, room_for_one, room_after_removal, room_for_first}
+use Rattle.pin_examples.specs.ExamplesTwo.{RowTwo, RightTwo, ExamplesTwo, after_two, moves, verdicts, refusals, editions, managed, move_made, move_pinned, move_both, move_both_pinned, move_both_pinned_area, move_alone_a, move_alone_b, move_enabled_b, move_too_early, move_done, move_back, move_back_later, move_next, contradicted_raises, contradicted_makes_none, both_raise, disabled_makes_none, disabled_goes, absent_goes, disabled_matches, disabled_at_end, bit_without_tack, further_bit, one_key, one_key_first, expired_at1000, expires_after999, expired_raises_none, generation_first, expired_first, hash_first, first_tack_first, first_revoked, second_revoked, revoked_last, started_one, started_two, one_on_two, one_on_two_first, e4_on_one, two_on_one, deletes_both, inspects_first, inspects_second, inspects_younger, inspects_older, inspects_missing, others, other_keys, other_pins, table_two, room_for_one, room_after_removal, room_for_first}
 use Rattle.pin_examples.proofs.Model.{model_answer, model_table}
 
 -- a row, by what the model computes from the empty table
@@ -61,7 +61,7 @@ editions-right =
 managed-right : Every RightTwo managed
 unfolding model_answer
 managed-right =
-    right deletes_both refl refl also right inspects_first refl refl also right inspects_second refl refl also right inspects_unseen refl refl
+    right deletes_both refl refl also right inspects_first refl refl also right inspects_second refl refl
     also right inspects_younger refl refl also right inspects_older refl refl also right inspects_missing refl refl also nothing
 
 -- the table after `others`, computed once for the three rows

@@ -82,7 +82,7 @@ without_extension clock = no_extension_as host clock
 
 -- a number with the alert that the paper gives it
 abbrev pub alerted : ℕ → ℕ → Answer
-alerted n alert = record { number = n; alert = alert; no_room = false; floor = 0; initial = 0; end = 0; last = 0; minutes_left = pos 0 }
+alerted n alert = record { number = n; alert = alert; no_room = false; floor = 0; initial = 0; end = 0; minutes_left = pos 0 }
 
 -- E1: 'bytes 00 00 00 00 are well-formed'
 abbrev pub e1 : ReadingRow
@@ -101,26 +101,24 @@ abbrev pub e4 : Row
 e4 = row [] (with_tack 1000 (tack 3 3 later)) (plain 0)
 
 -- E4: 'Table: 00 00 03 E8 00 00 00 00; key slot 0: 01 03, six 00, 64 times 11; name slot 0: 01 00 03 00, 00 00 03 E8, eight
--- 00, 61 2E 62; all else 00': the rest of 64 key slots of 72 bytes and of 128 name slots of 272 bytes. The second four of
--- those eight are `last` now: 'E4 shows 00 00 03 E8 there' (document 02, Q-8).
+-- 00, 61 2E 62; all else 00': the rest of 64 key slots of 72 bytes and of 128 name slots of 272 bytes
 unfoldable pub e4_area : List ℕ
 e4_area =
     0x00 ∷ 0x00 ∷ 0x03 ∷ 0xE8 ∷ 0x00 ∷ 0x00 ∷ 0x00 ∷ 0x00 ∷ []
     ++ 0x01 ∷ 0x03 ∷ replicate 6 0x00 ++ replicate 64 0x11
     ++ replicate (63 * 72) 0x00
-    ++ 0x01 ∷ 0x00 ∷ 0x03 ∷ 0x00 ∷ 0x00 ∷ 0x00 ∷ 0x03 ∷ 0xE8 ∷ replicate 4 0x00
-    ++ 0x00 ∷ 0x00 ∷ 0x03 ∷ 0xE8 ∷ 0x61 ∷ 0x2E ∷ 0x62 ∷ replicate 253 0x00
+    ++ 0x01 ∷ 0x00 ∷ 0x03 ∷ 0x00 ∷ 0x00 ∷ 0x00 ∷ 0x03 ∷ 0xE8 ∷ replicate 8 0x00 ++ 0x61 ∷ 0x2E ∷ 0x62 ∷ replicate 253 0x00
     ++ replicate (127 * 272) 0x00
 
 -- E5: 'then K at 1600, activation 1: end 2200, confirmed'
 abbrev pub e5 : Row
 e5 = row (after e4) (with_tack 1600 (tack 3 3 later)) (plain 1)
 
--- E5's end and its last, as an inspection shows them
+-- E5's end, as an inspection shows it
 abbrev pub e5_inspected : Row
 e5_inspected =
     row (after e5) (inspect false host 1600)
-    (answer_of false 6 false 3 1000 2200 1600 (pos 600))
+    (answer_of false 6 false 3 1000 2200 (pos 600))
 
 -- E6: 'then no extension at 2199: contradicted'
 abbrev pub e6 : Row
@@ -134,11 +132,11 @@ e7 = row (after e5) (without_extension 2200) (plain 0)
 abbrev pub e8 : Row
 e8 = row (after e4) (with_tack 100000 (tack 3 3 later)) (plain 1)
 
--- E8's end and its last, as an inspection shows them
+-- E8's end, as an inspection shows it
 abbrev pub e8_inspected : Row
 e8_inspected =
     row (after e8) (inspect false host 100000)
-    (answer_of false 6 false 3 1000 143200 100000 (pos 43200))
+    (answer_of false 6 false 3 1000 143200 (pos 43200))
 
 -- E9: 'from E4, K with generation 2 and min_generation 2: 22'
 abbrev pub e9 : Row
@@ -187,7 +185,7 @@ spelled_contradicted = row (after spelled_confirmed) (no_extension_as capitals 2
 abbrev pub spelled_inspected : Row
 spelled_inspected =
     row (after spelled_confirmed) (inspect false mixed 2199)
-    (answer_of false 6 false 3 1000 2200 1600 (pos 1))
+    (answer_of false 6 false 3 1000 2200 (pos 1))
 
 -- 'A-Z' and no byte beside them, 'Refusal 12 narrows': `A.Z` passes, `@.Z` and `A.[` give 12
 abbrev pub spelled_a_z : Row
@@ -222,14 +220,14 @@ expired_break =
     row (after e4) (judge (connection 1001 host true bytes hash (checks_by true true true 1 false))) (alerted 23 45)
 
 abbrev pub expired_break_inspected : Row
-expired_break_inspected = row (after expired_break) (inspect false host 1001) (answer_of false 5 false 5 1000 0 1000 (pos 0))
+expired_break_inspected = row (after expired_break) (inspect false host 1001) (answer_of false 5 false 5 1000 0 (pos 0))
 
 -- an expired tack of a lower min_generation leaves the floor, and one of a key without a record makes none
 abbrev pub expired_lower : Row
 expired_lower = row (after e4) (with_tack 1001 (tack 2 3 1000)) (alerted 23 45)
 
 abbrev pub expired_lower_inspected : Row
-expired_lower_inspected = row (after expired_lower) (inspect false host 1001) (answer_of false 5 false 3 1000 0 1000 (pos 0))
+expired_lower_inspected = row (after expired_lower) (inspect false host 1001) (answer_of false 5 false 3 1000 0 (pos 0))
 
 abbrev pub expired_unrecorded : Row
 expired_unrecorded = row (after e12_at1001) (inspect false host 1001) (plain 4)
@@ -258,35 +256,13 @@ abbrev pub disabled_keeps : Row
 disabled_keeps = row (after e4) (disabled_by false 1600 other_tack) (plain 0)
 
 abbrev pub disabled_keeps_inspected : Row
-disabled_keeps_inspected = row (after disabled_keeps) (inspect false host 1600) (answer_of false 5 false 3 1000 0 1000 (pos 0))
+disabled_keeps_inspected = row (after disabled_keeps) (inspect false host 1600) (answer_of false 5 false 3 1000 0 (pos 0))
 
 abbrev pub yes_replaces : Row
 yes_replaces = row (after e4) (disabled_by true 1600 other_tack) (plain 0)
 
 abbrev pub yes_replaces_inspected : Row
-yes_replaces_inspected = row (after yes_replaces) (inspect false host 1600) (answer_of false 5 false 7 1600 0 1600 (pos 0))
-
--- 'the clock of the latest call with a verdict, for this name, that showed the key, activation or not' (document 02, Q-8): from E4, K at
--- 1600 with activation 0
-abbrev pub last_disabled : Row
-last_disabled = row (after e4) (disabled_by false 1600 (tack 3 3 later)) (plain 0)
-
-abbrev pub last_disabled_inspected : Row
-last_disabled_inspected = row (after last_disabled) (inspect false host 1600) (answer_of false 5 false 3 1000 0 1600 (pos 0))
-
--- 'for this name': from E4, K for `A.Z` at 1600
-abbrev pub last_other_name : Row
-last_other_name = row (after e4) (tack_as (0x41 ∷ 0x2E ∷ 0x5A ∷ []) 1600 (tack 3 3 later)) (plain 0)
-
-abbrev pub last_other_name_inspected : Row
-last_other_name_inspected = row (after last_other_name) (inspect false host 1600) (answer_of false 5 false 3 1000 0 1000 (pos 0))
-
--- 'that showed the key': from E5, another key's tack at 2199, contradicted
-abbrev pub last_other_key : Row
-last_other_key = row (after e5) (with_tack 2199 other_tack) (alerted 2 49)
-
-abbrev pub last_other_key_inspected : Row
-last_other_key_inspected = row (after last_other_key) (inspect false host 2199) (answer_of false 6 false 3 1000 2200 1600 (pos 1))
+yes_replaces_inspected = row (after yes_replaces) (inspect false host 1600) (answer_of false 5 false 7 1600 0 (pos 0))
 
 abbrev pub reading_examples : List ReadingRow
 reading_examples = e1 ∷ e2 ∷ e3 ∷ []
@@ -308,10 +284,6 @@ abbrev pub disabled_examples : List Row
 disabled_examples =
     disabled_default ∷ disabled_yes ∷ disabled_keeps ∷ disabled_keeps_inspected ∷ yes_replaces ∷ yes_replaces_inspected ∷ []
 
-abbrev pub last_examples : List Row
-last_examples =
-    last_disabled ∷ last_disabled_inspected ∷ last_other_name ∷ last_other_name_inspected ∷ last_other_key ∷ last_other_key_inspected ∷ []
-
 -- 'E1-E12 are proved together as one table under one statement'
 pub record Examples : Type 0 where
   pub readings : Every ReadingRight reading_examples
@@ -323,4 +295,3 @@ pub record Examples : Type 0 where
   pub disabled : Every Right disabled_examples
   pub disabled_bytes : area_of false (after disabled_default) ≡ disabled_area
   pub yes_bytes : area_of false (after disabled_yes) ≡ e4_area
-  pub lasts : Every Right last_examples

@@ -114,39 +114,39 @@ table_one latest keys names = table_of false latest keys names
 abbrev pub table_two : ℕ → List (Option KeyRecord) → List (Option NameRecord) → Table
 table_two latest keys names = table_of true latest keys names
 
--- a used key slot; a used name slot by its name, key, initial, end and last, and one of `a.b`
+-- a used key slot; a used name slot by its name, key, initial and end, and one of `a.b`
 abbrev pub key_with : List ℕ → ℕ → Option KeyRecord
 key_with key floor = some (key_record key floor)
 
-abbrev pub pin_for : List ℕ → List ℕ → ℕ → Option ℕ → ℕ → Option NameRecord
-pin_for name key initial end last = some (name_record name key initial end last)
+abbrev pub pin_for : List ℕ → List ℕ → ℕ → Option ℕ → Option NameRecord
+pin_for name key initial end = some (name_record name key initial end)
 
-abbrev pub pin_with : List ℕ → ℕ → Option ℕ → ℕ → Option NameRecord
-pin_with key initial end last = pin_for host key initial end last
+abbrev pub pin_with : List ℕ → ℕ → Option ℕ → Option NameRecord
+pin_with key initial end = pin_for host key initial end
 
--- A server moves from key A to key B through two tacks. A's record is made at 1000, and its end comes to be 4800. B's is made at
+-- A server moves from key A to key B through two tacks. A's record is made at 1000, and its last end is 4800. B's is made at
 -- 2000; its end is 3800 by the call at 2900, and 5400 by the call at 3700.
 -- 'each enabled tack .. makes one': A at 1000
 abbrev pub move_made : RowTwo
-move_made = row_two [] (one_tack 1000 tack_a the_first) (in_edition_two 0) (table_two 1000 (key_with key_a 3 ∷ []) (pin_with key_a 1000 none 1000 ∷ []))
+move_made = row_two [] (one_tack 1000 tack_a the_first) (in_edition_two 0) (table_two 1000 (key_with key_a 3 ∷ []) (pin_with key_a 1000 none ∷ []))
 
 -- 'extends its record by the same formula', after the verdict fell: A at 1600: unpinned, for no record was active; end 1600 + 600
 abbrev pub move_pinned : RowTwo
 move_pinned =
     row_two (after_two move_made) (one_tack 1600 tack_a the_first) (in_edition_two 0)
-    (table_two 1600 (key_with key_a 3 ∷ []) (pin_with key_a 1000 (some 2200) 1600 ∷ []))
+    (table_two 1600 (key_with key_a 3 ∷ []) (pin_with key_a 1000 (some 2200) ∷ []))
 
 -- 'confirmed if any is active': A and B at 2000: A's end is 2000 + 1000, and B's record is made
 abbrev pub move_both : RowTwo
 move_both =
     row_two (after_two move_pinned) (two_tacks 2000 tack_a tack_b both) (in_edition_two 1)
-    (table_two 2000 (key_with key_a 3 ∷ key_with key_b 3 ∷ []) (pin_with key_a 1000 (some 3000) 2000 ∷ pin_with key_b 2000 none 2000 ∷ []))
+    (table_two 2000 (key_with key_a 3 ∷ key_with key_b 3 ∷ []) (pin_with key_a 1000 (some 3000) ∷ pin_with key_b 2000 none ∷ []))
 
 -- A and B at 2900: the ends are 2900 + 1900 and 2900 + 900, and both pins are active
 abbrev pub move_both_pinned : RowTwo
 move_both_pinned =
     row_two (after_two move_both) (two_tacks 2900 tack_a tack_b both) (in_edition_two 1)
-    (table_two 2900 (key_with key_a 3 ∷ key_with key_b 3 ∷ []) (pin_with key_a 1000 (some 4800) 2900 ∷ pin_with key_b 2000 (some 3800) 2900 ∷ []))
+    (table_two 2900 (key_with key_a 3 ∷ key_with key_b 3 ∷ []) (pin_with key_a 1000 (some 4800) ∷ pin_with key_b 2000 (some 3800) ∷ []))
 
 -- that table in bytes: latest 2900, 'byte 4 is then 1'; key slots 0 and 1; name slots 0 and 1, of one name, on key slots 0 and 1;
 -- all else 00: the rest of 64 key slots of 72 bytes and of 128 name slots of 272 bytes
@@ -156,48 +156,39 @@ move_both_pinned_area =
     ++ 0x01 ∷ 0x03 ∷ replicate 6 0x00 ++ replicate 64 0x11
     ++ 0x01 ∷ 0x03 ∷ replicate 6 0x00 ++ replicate 64 0x44
     ++ replicate (62 * 72) 0x00
-    ++ 0x01 ∷ 0x00 ∷ 0x03 ∷ 0x01 ∷ 0x00 ∷ 0x00 ∷ 0x03 ∷ 0xE8 ∷ 0x00 ∷ 0x00 ∷ 0x12 ∷ 0xC0 ∷ []
-    ++ 0x00 ∷ 0x00 ∷ 0x0B ∷ 0x54 ∷ 0x61 ∷ 0x2E ∷ 0x62 ∷ replicate 253 0x00
-    ++ 0x01 ∷ 0x01 ∷ 0x03 ∷ 0x01 ∷ 0x00 ∷ 0x00 ∷ 0x07 ∷ 0xD0 ∷ 0x00 ∷ 0x00 ∷ 0x0E ∷ 0xD8 ∷ []
-    ++ 0x00 ∷ 0x00 ∷ 0x0B ∷ 0x54 ∷ 0x61 ∷ 0x2E ∷ 0x62 ∷ replicate 253 0x00
+    ++ 0x01 ∷ 0x00 ∷ 0x03 ∷ 0x01 ∷ 0x00 ∷ 0x00 ∷ 0x03 ∷ 0xE8 ∷ 0x00 ∷ 0x00 ∷ 0x12 ∷ 0xC0 ∷ replicate 4 0x00
+    ++ 0x61 ∷ 0x2E ∷ 0x62 ∷ replicate 253 0x00
+    ++ 0x01 ∷ 0x01 ∷ 0x03 ∷ 0x01 ∷ 0x00 ∷ 0x00 ∷ 0x07 ∷ 0xD0 ∷ 0x00 ∷ 0x00 ∷ 0x0E ∷ 0xD8 ∷ replicate 4 0x00
+    ++ 0x61 ∷ 0x2E ∷ 0x62 ∷ replicate 253 0x00
     ++ replicate (126 * 272) 0x00
 
--- 'contradicted if any active record has no matching tack': A alone at 3000, for B's record; latest and A's last move (document 02, Q-8),
--- and nothing else
+-- 'contradicted if any active record has no matching tack': A alone at 3000, for B's record; latest moves, and nothing else
 abbrev pub move_alone_a : RowTwo
-move_alone_a =
-    row_two (after_two move_both_pinned) (one_tack 3000 tack_a the_first) (alerted 2 49)
-    (table_two 3000 (key_with key_a 3 ∷ key_with key_b 3 ∷ []) (pin_with key_a 1000 (some 4800) 3000 ∷ pin_with key_b 2000 (some 3800) 2900 ∷ []))
+move_alone_a = row_two (after_two move_both_pinned) (one_tack 3000 tack_a the_first) (alerted 2 49) (settled_at 3000 move_both_pinned.leaves)
 
 -- instead B alone at 3000, for A's record
 abbrev pub move_alone_b : RowTwo
-move_alone_b =
-    row_two (after_two move_both_pinned) (one_tack 3000 tack_b the_first) (alerted 2 49)
-    (table_two 3000 (key_with key_a 3 ∷ key_with key_b 3 ∷ []) (pin_with key_a 1000 (some 4800) 2900 ∷ pin_with key_b 2000 (some 3800) 3000 ∷ []))
+move_alone_b = row_two (after_two move_both_pinned) (one_tack 3000 tack_b the_first) (alerted 2 49) (settled_at 3000 move_both_pinned.leaves)
 
--- instead A and B at 3700, B alone enabled: B's end is 3700 + 1700, behind A's; both are shown, so both lasts are 3700
+-- instead A and B at 3700, B alone enabled: B's end is 3700 + 1700, behind A's
 abbrev pub move_enabled_b : RowTwo
 move_enabled_b =
     row_two (after_two move_both_pinned) (two_tacks 3700 tack_a tack_b the_second) (in_edition_two 1)
-    (table_two 3700 (key_with key_a 3 ∷ key_with key_b 3 ∷ []) (pin_with key_a 1000 (some 4800) 3700 ∷ pin_with key_b 2000 (some 5400) 3700 ∷ []))
+    (table_two 3700 (key_with key_a 3 ∷ key_with key_b 3 ∷ []) (pin_with key_a 1000 (some 4800) ∷ pin_with key_b 2000 (some 5400) ∷ []))
 
 -- then B alone at 4799: contradicted, for A's record
 abbrev pub move_too_early : RowTwo
-move_too_early =
-    row_two (after_two move_enabled_b) (one_tack 4799 tack_b the_first) (alerted 2 49)
-    (table_two 4799 (key_with key_a 3 ∷ key_with key_b 3 ∷ []) (pin_with key_a 1000 (some 4800) 3700 ∷ pin_with key_b 2000 (some 5400) 4799 ∷ []))
+move_too_early = row_two (after_two move_enabled_b) (one_tack 4799 tack_b the_first) (alerted 2 49) (settled_at 4799 move_enabled_b.leaves)
 
 -- instead at 4800, where A's pin has run out: confirmed, and A's record and key go; B's end is 4800 + 2800
 abbrev pub move_done : RowTwo
 move_done =
     row_two (after_two move_enabled_b) (one_tack 4800 tack_b the_first) (in_edition_two 1)
-    (table_two 4800 (none ∷ key_with key_b 3 ∷ []) (none ∷ pin_with key_b 2000 (some 7600) 4800 ∷ []))
+    (table_two 4800 (none ∷ key_with key_b 3 ∷ []) (none ∷ pin_with key_b 2000 (some 7600) ∷ []))
 
 -- instead A alone at 4800: contradicted, for B's record; 'Unless contradicted': A's inactive record stays
 abbrev pub move_back : RowTwo
-move_back =
-    row_two (after_two move_enabled_b) (one_tack 4800 tack_a the_first) (alerted 2 49)
-    (table_two 4800 (key_with key_a 3 ∷ key_with key_b 3 ∷ []) (pin_with key_a 1000 (some 4800) 4800 ∷ pin_with key_b 2000 (some 5400) 3700 ∷ []))
+move_back = row_two (after_two move_enabled_b) (one_tack 4800 tack_a the_first) (alerted 2 49) (settled_at 4800 move_enabled_b.leaves)
 
 -- A alone at 5000, after B alone at 4800: contradicted
 abbrev pub move_back_later : RowTwo
@@ -207,15 +198,15 @@ move_back_later = row_two (after_two move_done) (one_tack 5000 tack_a the_first)
 abbrev pub move_next : RowTwo
 move_next =
     row_two (after_two move_done) (two_tacks 5000 tack_b tack_c both) (in_edition_two 1)
-    (table_two 5000 (key_with key_c 7 ∷ key_with key_b 3 ∷ []) (pin_with key_c 5000 none 5000 ∷ pin_with key_b 2000 (some 8000) 5000 ∷ []))
+    (table_two 5000 (key_with key_c 7 ∷ key_with key_b 3 ∷ []) (pin_with key_c 5000 none ∷ pin_with key_b 2000 (some 8000) ∷ []))
 
 -- Contradicted, floors raised, disabled.
--- 'After the floors are raised and latest set, the verdict falls': A alone at 3000 with min_generation 5: its floor, its last and
--- latest move, nothing else
+-- 'After the floors are raised and latest set, the verdict falls': A alone at 3000 with min_generation 5: its floor and latest
+-- move, nothing else
 abbrev pub contradicted_raises : RowTwo
 contradicted_raises =
     row_two (after_two move_both_pinned) (one_tack 3000 (tack_under key_a 5 6 later) the_first) (alerted 2 49)
-    (table_two 3000 (key_with key_a 5 ∷ key_with key_b 3 ∷ []) (pin_with key_a 1000 (some 4800) 3000 ∷ pin_with key_b 2000 (some 3800) 2900 ∷ []))
+    (table_two 3000 (key_with key_a 5 ∷ key_with key_b 3 ∷ []) (pin_with key_a 1000 (some 4800) ∷ pin_with key_b 2000 (some 3800) ∷ []))
 
 -- 'Unless contradicted': C alone at 2000 is contradicted, for A's record, and none is made
 abbrev pub contradicted_makes_none : RowTwo
@@ -225,7 +216,7 @@ contradicted_makes_none = row_two (after_two move_pinned) (one_tack 2000 tack_c 
 abbrev pub both_raise : RowTwo
 both_raise =
     row_two (after_two move_both_pinned) (two_tacks 3000 (tack_under key_a 4 4 later) (tack_under key_b 6 6 later) the_first) (in_edition_two 1)
-    (table_two 3000 (key_with key_a 4 ∷ key_with key_b 6 ∷ []) (pin_with key_a 1000 (some 5000) 3000 ∷ pin_with key_b 2000 (some 3800) 3000 ∷ []))
+    (table_two 3000 (key_with key_a 4 ∷ key_with key_b 6 ∷ []) (pin_with key_a 1000 (some 5000) ∷ pin_with key_b 2000 (some 3800) ∷ []))
 
 -- 'each enabled tack .. makes one': a disabled tack makes none
 abbrev pub disabled_makes_none : RowTwo
@@ -239,12 +230,9 @@ disabled_goes = row_two (after_two move_made) (one_tack 1600 tack_a neither) (in
 abbrev pub absent_goes : RowTwo
 absent_goes = row_two (after_two move_made) (no_tack 1600) (in_edition_two 0) (table_two 1600 [] [])
 
--- 'any active record has no matching tack': A's tack at 2199, disabled, matches its active record: confirmed, and the end stays; 'activation
--- or not', its last is 2199 (document 02, Q-8)
+-- 'any active record has no matching tack': A's tack at 2199, disabled, matches its active record: confirmed, and the end stays
 abbrev pub disabled_matches : RowTwo
-disabled_matches =
-    row_two (after_two move_pinned) (one_tack 2199 tack_a neither) (in_edition_two 1)
-    (table_two 2199 (key_with key_a 3 ∷ []) (pin_with key_a 1000 (some 2200) 2199 ∷ []))
+disabled_matches = row_two (after_two move_pinned) (one_tack 2199 tack_a neither) (in_edition_two 1) (settled_at 2199 move_pinned.leaves)
 
 -- instead at 2200: the record is no longer active, and goes
 abbrev pub disabled_at_end : RowTwo
@@ -274,7 +262,7 @@ expired_at1000 = row_two [] (one_tack 1000 (tack_under key_a 3 3 1000) the_first
 abbrev pub expires_after999 : RowTwo
 expires_after999 =
     row_two [] (one_tack 999 (tack_under key_a 3 3 1000) the_first) (in_edition_two 0)
-    (table_two 999 (key_with key_a 3 ∷ []) (pin_with key_a 999 none 999 ∷ []))
+    (table_two 999 (key_with key_a 3 ∷ []) (pin_with key_a 999 none ∷ []))
 
 -- 'there 23 raises no floor' (document 02, Q-4): from A's record, A's tack with min_generation 5, expired
 abbrev pub expired_raises_none : RowTwo
@@ -327,7 +315,7 @@ one_on_two_first = row_two [] (tack_as [] 1000 (tack 3 3 later)) (plain 27) (emp
 abbrev pub e4_on_one : RowTwo
 e4_on_one =
     row_two (after_two started_one) (with_tack 1000 (tack 3 3 later)) (plain 0)
-    (table_one 1000 (key_with key_a 3 ∷ []) (pin_with key_a 1000 none 1000 ∷ []))
+    (table_one 1000 (key_with key_a 3 ∷ []) (pin_with key_a 1000 none ∷ []))
 
 abbrev pub two_on_one : RowTwo
 two_on_one = row_two (after_two e4_on_one) (one_tack 1600 tack_a the_first) (in_edition_two 27) e4_on_one.leaves
@@ -341,33 +329,26 @@ deletes_both = row_two (after_two move_both_pinned) (delete host) (plain 3) (tab
 abbrev pub inspects_first : RowTwo
 inspects_first =
     row_two (after_two move_both_pinned) (inspect false host 2900)
-    (answer_of false 6 false 3 1000 4800 2900 (pos 1900))
+    (answer_of false 6 false 3 1000 4800 (pos 1900))
     move_both_pinned.leaves
 
 abbrev pub inspects_second : RowTwo
 inspects_second =
     row_two (after_two move_both_pinned) (inspect true host 2900)
-    (answer_of false 6 false 3 2000 3800 2900 (pos 900))
+    (answer_of false 6 false 3 2000 3800 (pos 900))
     move_both_pinned.leaves
-
--- each with its own last, after A alone at 3000
-abbrev pub inspects_unseen : RowTwo
-inspects_unseen =
-    row_two (after_two move_alone_a) (inspect true host 3000)
-    (answer_of false 6 false 3 2000 3800 2900 (pos 800))
-    move_alone_a.leaves
 
 -- by slot and not by age: C's record, the younger, stands before B's
 abbrev pub inspects_younger : RowTwo
 inspects_younger =
     row_two (after_two move_next) (inspect false host 5000)
-    (answer_of false 5 false 7 5000 0 5000 (pos 0))
+    (answer_of false 5 false 7 5000 0 (pos 0))
     move_next.leaves
 
 abbrev pub inspects_older : RowTwo
 inspects_older =
     row_two (after_two move_next) (inspect true host 5000)
-    (answer_of false 6 false 3 2000 8000 5000 (pos 3000))
+    (answer_of false 6 false 3 2000 8000 (pos 3000))
     move_next.leaves
 
 -- '4 if missing': the second, where one record stands
@@ -397,28 +378,28 @@ abbrev pub other_pins : ℕ → List (Option NameRecord)
 other_pins zero = []
 other_pins (suc n) =
     other_pins n
-    ++ pin_for (other_name n) (other_key (2 * n)) 1000 none 1000 ∷ pin_for (other_name n) (other_key (2 * n + 1)) 1000 none 1000 ∷ []
+    ++ pin_for (other_name n) (other_key (2 * n)) 1000 none ∷ pin_for (other_name n) (other_key (2 * n + 1)) 1000 none ∷ []
 
 -- 'Room is counted .. per tack; no room is yes if either lacks it': of 64 key slots none is free; the first tack's key has a
 -- record, and A has none
 abbrev pub room_for_one : RowTwo
 room_for_one =
     row_two (others 32) (two_tacks 1000 (other_tack 0) tack_a both) (judgement true 0 true)
-    (table_two 1000 (other_keys 32) (other_pins 32 ++ pin_with (other_key 0) 1000 none 1000 ∷ []))
+    (table_two 1000 (other_keys 32) (other_pins 32 ++ pin_with (other_key 0) 1000 none ∷ []))
 
 -- 'Room is counted then', after the removals: `aa` with A and B, which take the slots of its inactive records and of their keys
 abbrev pub room_after_removal : RowTwo
 room_after_removal =
     row_two (others 32) (two_tacks_for (other_name 0) 1600 tack_a tack_b both) (in_edition_two 0)
     (table_two 1600 (key_with key_a 3 ∷ key_with key_b 3 ∷ drop 2 (other_keys 32))
-    (pin_for (other_name 0) key_a 1600 none 1600 ∷ pin_for (other_name 0) key_b 1600 none 1600 ∷ drop 2 (other_pins 32)))
+    (pin_for (other_name 0) key_a 1600 none ∷ pin_for (other_name 0) key_b 1600 none ∷ drop 2 (other_pins 32)))
 
 -- instead after `a.b` took a record on the first of these keys: only the other key goes, A takes its slot, and B lacks one
 abbrev pub room_for_first : RowTwo
 room_for_first =
     row_two (after_two room_for_one) (two_tacks_for (other_name 0) 1600 tack_a tack_b both) (judgement true 0 true)
     (table_two 1600 (key_with (other_key 0) 3 ∷ key_with key_a 3 ∷ drop 2 (other_keys 32))
-    (pin_for (other_name 0) key_a 1600 none 1600 ∷ none ∷ drop 2 (other_pins 32) ++ pin_with (other_key 0) 1000 none 1000 ∷ []))
+    (pin_for (other_name 0) key_a 1600 none ∷ none ∷ drop 2 (other_pins 32) ++ pin_with (other_key 0) 1000 none ∷ []))
 
 abbrev pub rooms : List RowTwo
 rooms = room_for_one ∷ room_after_removal ∷ room_for_first ∷ []
@@ -442,7 +423,7 @@ abbrev pub editions : List RowTwo
 editions = started_one ∷ started_two ∷ one_on_two ∷ one_on_two_first ∷ e4_on_one ∷ two_on_one ∷ []
 
 abbrev pub managed : List RowTwo
-managed = deletes_both ∷ inspects_first ∷ inspects_second ∷ inspects_unseen ∷ inspects_younger ∷ inspects_older ∷ inspects_missing ∷ []
+managed = deletes_both ∷ inspects_first ∷ inspects_second ∷ inspects_younger ∷ inspects_older ∷ inspects_missing ∷ []
 
 -- all of them under one statement
 pub record ExamplesTwo : Type 0 where

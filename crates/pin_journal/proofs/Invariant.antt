@@ -9,7 +9,7 @@ use borrow.Author.Tests.{eqb-true}
 use Rattle.pin_model.specs.Table.{clock_limit, Table, empty, without}
 use Rattle.pin_model.specs.Connection.{Connection, tack_shown, enabled, may_record, broken_keys, ConnectionTwo, tacks_shown}
 use Rattle.pin_model.specs.Judge.{raise_shown, judged}
-use Rattle.pin_model.specs.JudgeTwo.{shown_two, contradicted, judged_two}
+use Rattle.pin_model.specs.JudgeTwo.{raised_two, contradicted, judged_two}
 use Rattle.pin_model.specs.Calls.{Call, judge, judge_two, delete, start, is_verdict, tacks_of_call}
 use Rattle.pin_model.proofs.Lists.{struck-any}
 use Rattle.pin_model.proofs.SoundFacts.{SoundFacts}
@@ -107,7 +107,7 @@ expired-invariant c t es n refused expired invariant =
     (ap (is_counted (judge c)) (eqb-true n 23 expired))
     (raised-learned (tack_shown c) t (journal es) (λ k. highest k (since k es)) invariant)
 
-pub judge-two-invariant : (c : ConnectionTwo) (t : Table) (es : List Entry) (n : ℕ) → is_verdict n ≡ true → contradicted c.name c.clock (tacks_shown c) (shown_two c t) ≡ eqb n 2
+pub judge-two-invariant : (c : ConnectionTwo) (t : Table) (es : List Entry) (n : ℕ) → is_verdict n ≡ true → contradicted c.name c.clock (tacks_shown c) (raised_two c t) ≡ eqb n 2
     → Invariant t es → SoundFacts t → ConnectionTwoFacts c t → Invariant (judged_two c t) (entry (judge_two c) n ∷ es)
 unfolding journal
 judge-two-invariant c t es n verdict its invariant facts passed =

@@ -14,18 +14,18 @@ use Rattle.tack_extension.specs.Tack.{public_key, min_generation}
 use Rattle.pin_model.specs.Slots.{count, used, has_free, placed, apart, struck}
 use Rattle.pin_model.specs.Table.{clock_limit, NameRecord, Table, holding, name_is, pin_is, active, key_recorded, without_all}
 use Rattle.pin_model.specs.Connection.{ConnectionTwo, Shown, tacks_shown, key_shown, key_enabled}
-use Rattle.pin_model.specs.Judge.{show_tack, extend, new_name, keyed_for, active_of}
-use Rattle.pin_model.specs.JudgeTwo.{show_each, shown_at, shown_two, contradicted, is_removed, has_own, room_of, make_own, learn_own, learn_each, learn_two, judged_two}
+use Rattle.pin_model.specs.Judge.{raise, extend, new_name, keyed_for, active_of}
+use Rattle.pin_model.specs.JudgeTwo.{raise_each, raised_at, raised_two, contradicted, is_removed, has_own, room_of, make_own, learn_own, learn_each, learn_two, judged_two}
 use Rattle.pin_model.proofs.Lists.{bit, any-ext, any-struck}
 use Rattle.pin_model.proofs.Slots.{alike-placed}
 use Rattle.pin_model.proofs.SoundFacts.{SoundFacts}
 use Rattle.pin_model.proofs.TwoFacts.{ConnectionTwoFacts}
-use Rattle.pin_model.proofs.SoundTwo.{Stage, own-stage, removed-stage, shown-stage}
-use Rattle.pin_journal.specs.Journal.{Row, row_of, row_key, live, own_row, activated_rows, sighted_row, shown_rows, shown_each, is_full, new_row, row_removed, write_own, entered_own, entered_each, entered_two, stands, shown_under}
+use Rattle.pin_model.proofs.SoundTwo.{Stage, own-stage, removed-stage, raised-stage}
+use Rattle.pin_journal.specs.Journal.{Row, row_of, row_key, live, own_row, seen_rows, is_full, new_row, row_removed, write_own, entered_own, entered_each, entered_two, stands, shown_under}
 use Rattle.pin_journal.specs.Demand3.{contradicts_two}
 use Rattle.pin_journal.proofs.RowRecord.{record_of, live-active}
 use Rattle.pin_journal.proofs.Agreement.{Agrees, any-row, settled, refloored}
-use Rattle.pin_journal.proofs.Steps.{raise-agrees, any-shown-rows, sight-agrees, activated-stands, extend-agrees, removed-agrees}
+use Rattle.pin_journal.proofs.Steps.{raise-agrees, seen-stands, extend-agrees, removed-agrees}
 use Rattle.pin_journal.proofs.AddedRow.{new_floor, rows-room, added-agrees}
 use Rattle.pin_journal.proofs.Judging.{Learned}
 
@@ -36,21 +36,13 @@ tacks_of tacks = map (λ s. s.tack) tacks
 abbrev floor_afterwards : List (List ℕ) → List Row → (List ℕ → ℕ) → List ℕ → ℕ
 floor_afterwards shown rows floor k = max (shown_under k shown) (cond (stands k rows) (floor k) 0)
 
--- what is shown: each tack's last, which tests that don't see it pass as before
-any-shown : (name : List ℕ) (clock : ℕ) (tacks : List Shown) (p : Row → Bool) → ((r : Row) → p (sighted_row clock r) ≡ p r) → (rows : List Row)
-    → any p (shown_each name clock tacks rows) ≡ any p rows
-any-shown name clock [] p unseen rows = refl
-any-shown name clock (s ∷ tacks) p unseen rows =
-    any-shown name clock tacks p unseen (shown_rows name clock (public_key s.tack) rows) ∙ any-shown-rows name clock s.tack p unseen rows
-
--- and floors are raised for each tack whose key has a record
-shown-agrees : (name : List ℕ) (clock : ℕ) (tacks : List Shown) {t : Table} {rows : List Row} {floor : List ℕ → ℕ} → Agrees t rows floor
-    → Agrees (show_each name clock tacks t) (shown_each name clock tacks rows) (λ k. max (shown_under k (tacks_of tacks)) (floor k))
-shown-agrees name clock [] {t} {rows} {floor} agrees = refloored agrees (λ k. max 0 (floor k)) (λ k e. omega arith)
-shown-agrees name clock (s ∷ tacks) {t} {rows} {floor} agrees =
-    refloored
-    (shown-agrees name clock tacks {t = show_tack name clock s.tack t} (sight-agrees name clock s.tack (raise-agrees s.tack agrees)))
-    (λ k. max (shown_under k (tacks_of (s ∷ tacks))) (floor k)) (λ k e. go k (same (public_key s.tack) k))
+-- floors are raised for each tack whose key has a record
+raised-agrees : (tacks : List Shown) {t : Table} {rows : List Row} {floor : List ℕ → ℕ} → Agrees t rows floor
+    → Agrees (raise_each tacks t) rows (λ k. max (shown_under k (tacks_of tacks)) (floor k))
+raised-agrees [] {t} {rows} {floor} agrees = refloored agrees (λ k. max 0 (floor k)) (λ k e. omega arith)
+raised-agrees (s ∷ tacks) {t} {rows} {floor} agrees =
+    refloored (raised-agrees tacks {t = raise s.tack t} (raise-agrees s.tack agrees)) (λ k. max (shown_under k (tacks_of (s ∷ tacks))) (floor k))
+    (λ k e. go k (same (public_key s.tack) k))
   where
     go : (k : List ℕ) (b : Bool)
         → max (shown_under k (tacks_of tacks)) (cond b (max (floor k) (min_generation s.tack)) (floor k))
@@ -115,7 +107,7 @@ module _ (name : List ℕ) (clock : ℕ) (s : Shown) {t : Table} {rows : List Ro
     where
       go : (enabled : Bool) → s.enabled ≡ enabled → (own : Bool) → has_own name s.tack t ≡ own → (own_rows : Bool) → own ≡ own_rows
           → Agrees (cond enabled (cond own (extend true name clock s.tack t) (make_own name clock s.tack t)) t)
-          (cond enabled (cond own_rows (activated_rows true name clock key rows) (write_own name clock key rows)) rows) floor
+          (cond enabled (cond own_rows (seen_rows true name clock key rows) (write_own name clock key rows)) rows) floor
       go false e own o own_rows p = agrees
       go true e true o true p = extend-agrees true name clock s.tack agrees
       go true e true o false p = absurd (true≢false p)
@@ -127,9 +119,9 @@ module _ (name : List ℕ) (clock : ℕ) (s : Shown) {t : Table} {rows : List Ro
   own-stands k e = go s.enabled (any (own_row name key) rows) (ltb (count (row_of name) rows) 2 && not (is_full key rows))
     where
       go : (enabled own write : Bool)
-          → stands k (cond enabled (cond own (activated_rows true name clock key rows) (cond write (new_row name clock key ∷ rows) rows)) rows) ≡ true
+          → stands k (cond enabled (cond own (seen_rows true name clock key rows) (cond write (new_row name clock key ∷ rows) rows)) rows) ≡ true
       go false own write = e
-      go true true write = activated-stands true name clock s.tack k rows ∙ e
+      go true true write = seen-stands true name clock s.tack k rows ∙ e
       go true false true = ap (λ (b : Bool). same key k || b) e ∙ or-true (same key k)
       go true false false = e
 
@@ -147,11 +139,11 @@ foretold-later floor rows after (s ∷ tacks) h f =
     (λ on e. f.0 on (is_false (stands (public_key s.tack) rows) (λ d. true≢false (sym (h (public_key s.tack) d) ∙ e))), foretold-later floor rows after tacks h f.1)
 
 each-agrees : (name : List ℕ) (clock : ℕ) (formed : well_formed name ≡ true) (tacks : List Shown) {t : Table} {rows : List Row} {floor : List ℕ → ℕ}
-    → Agrees t rows floor → Stage name clock tacks t → Foretold floor rows tacks
+    → Agrees t rows floor → Stage clock t → Foretold floor rows tacks
     → Agrees (learn_each name clock tacks t) (entered_each name clock tacks rows) floor
 each-agrees name clock formed [] agrees stage foretold = agrees
 each-agrees name clock formed (s ∷ tacks) {t} {rows} {floor} agrees stage foretold =
-    each-agrees name clock formed tacks (own-agrees name clock s agrees stage.facts foretold.0) (own-stage name clock formed s tacks stage)
+    each-agrees name clock formed tacks (own-agrees name clock s agrees stage.facts foretold.0) (own-stage name clock formed s stage)
     (foretold-later floor rows (entered_own name clock s rows) tacks (own-stands name clock s agrees stage.facts) foretold.1)
 
 -- 'two tacks with one key' is refused: under each key its own tack alone shows something
@@ -204,14 +196,8 @@ foretold-shown full (s ∷ tacks) old after floor h distinct w = (
 module _ (name : List ℕ) (clock : ℕ) (tacks : List Shown) (t : Table) (rows : List Row) (floor : List ℕ → ℕ) (agrees : Agrees t rows floor)
     (facts : SoundFacts t) (two : t.two ≡ true) (in_order : t.latest ≤ clock) (in_limit : clock ≤ clock_limit) (formed : well_formed name ≡ true)
     (distinct : apart (λ s r. same (public_key r.tack) (public_key s.tack)) tacks ≡ true) where
-  abbrev shown : Table
-  shown = shown_at name clock tacks t
-
-  abbrev rows_shown : List Row
-  rows_shown = shown_each name clock tacks rows
-
-  as_before : (k : List ℕ) → stands k rows_shown ≡ stands k rows
-  as_before k = any-shown name clock tacks (row_key k) (λ r. refl) rows
+  abbrev raised : Table
+  raised = raised_at clock tacks t
 
   abbrev floor_now : List ℕ → ℕ
   floor_now = floor_afterwards (tacks_of tacks) rows floor
@@ -222,21 +208,21 @@ module _ (name : List ℕ) (clock : ℕ) (tacks : List Shown) (t : Table) (rows 
   abbrev goes_row : Row → Bool
   goes_row = row_removed name clock tacks
 
-  shown-now : Agrees shown rows_shown floor_now
-  shown-now = refloored (settled (shown-agrees name clock tacks agrees) clock) floor_now (λ k e. rw (sym (as_before k) ∙ e))
+  raised-now : Agrees raised rows floor_now
+  raised-now = refloored (settled (raised-agrees tacks agrees) clock) floor_now (λ k e. rw e)
 
   removed-same : (r : Row) → goes (record_of r) ≡ goes_row r
   removed-same r = ap (λ (b : Bool). row_of name r && (not b && not (key_enabled tacks r.key))) (sym (live-active clock r))
 
-  removed : Agrees (without_all goes shown) (struck goes_row rows_shown) floor_now
+  removed : Agrees (without_all goes raised) (struck goes_row rows) floor_now
   removed =
-      subst (λ (f : Row → Bool). Agrees (without_all goes shown) (struck f rows_shown) floor_now) (fun_ext removed-same) (removed-agrees goes shown-now)
+      subst (λ (f : Row → Bool). Agrees (without_all goes raised) (struck f rows) floor_now) (fun_ext removed-same) (removed-agrees goes raised-now)
 
   -- a record with an enabled tack does not go
-  kept-key : (k : List ℕ) → key_enabled tacks k ≡ true → stands k (struck goes_row rows_shown) ≡ stands k rows
+  kept-key : (k : List ℕ) → key_enabled tacks k ≡ true → stands k (struck goes_row rows) ≡ stands k rows
   kept-key k e =
-      any-struck (row_key k) goes_row rows_shown
-      ∙ any-ext (λ r. not (goes_row r) && row_key k r) (row_key k) (λ r. go r (row_key k r) refl) rows_shown ∙ as_before k
+      any-struck (row_key k) goes_row rows
+      ∙ any-ext (λ r. not (goes_row r) && row_key k r) (row_key k) (λ r. go r (row_key k r) refl) rows
     where
       bits : (n x : Bool) → (not (n && (x && false)) && true) ≡ true
       bits true true = refl
@@ -247,29 +233,29 @@ module _ (name : List ℕ) (clock : ℕ) (tacks : List Shown) (t : Table) (rows 
       go r true d = rw (ap (key_enabled tacks) (same_true r.key k d) ∙ e) (bits (row_of name r) (not (live clock r)))
       go r false d = and-false (not (goes_row r))
 
-  learned : Agrees (learn_each name clock tacks (without_all goes shown)) (entered_each name clock tacks (struck goes_row rows_shown)) floor_now
+  learned : Agrees (learn_each name clock tacks (without_all goes raised)) (entered_each name clock tacks (struck goes_row rows)) floor_now
   learned =
-      each-agrees name clock formed tacks removed (removed-stage name clock tacks goes (shown-stage name clock tacks facts two in_order in_limit))
-      (foretold-shown tacks tacks rows (struck goes_row rows_shown) floor (λ k e. refl) distinct (λ k e d. sym (kept-key k e) ∙ d))
+      each-agrees name clock formed tacks removed (removed-stage name clock formed goes (raised-stage name clock tacks facts two in_order in_limit))
+      (foretold-shown tacks tacks rows (struck goes_row rows) floor (λ k e. refl) distinct (λ k e d. sym (kept-key k e) ∙ d))
 
   -- `is_contradicted` is what the call's number says
-  learned-two : (is_contradicted : Bool) → contradicted name clock tacks shown ≡ is_contradicted
-      → Learned (tacks_of tacks) rows floor (learn_two name clock tacks shown)
-      (cond is_contradicted rows_shown (entered_each name clock tacks (struck goes_row rows_shown)))
+  learned-two : (is_contradicted : Bool) → contradicted name clock tacks raised ≡ is_contradicted
+      → Learned (tacks_of tacks) rows floor (learn_two name clock tacks raised)
+      (cond is_contradicted rows (entered_each name clock tacks (struck goes_row rows)))
   learned-two is_contradicted e =
-      record { floor_after = floor_now; agrees = go (contradicted name clock tacks shown) is_contradicted e; highest = λ k d. refl }
+      record { floor_after = floor_now; agrees = go (contradicted name clock tacks raised) is_contradicted e; highest = λ k d. refl }
     where
       go : (b d : Bool) → b ≡ d
-          → Agrees (cond b shown (learn_each name clock tacks (without_all goes shown)))
-          (cond d rows_shown (entered_each name clock tacks (struck goes_row rows_shown))) floor_now
-      go true true p = shown-now
+          → Agrees (cond b raised (learn_each name clock tacks (without_all goes raised)))
+          (cond d rows (entered_each name clock tacks (struck goes_row rows))) floor_now
+      go true true p = raised-now
       go true false p = absurd (true≢false p)
       go false true p = absurd (false≢true p)
       go false false p = learned
 
 -- `n` is the call's number
 pub judged-two-learned : (c : ConnectionTwo) (t : Table) (rows : List Row) (floor : List ℕ → ℕ) → Agrees t rows floor → SoundFacts t
-    → ConnectionTwoFacts c t → (n : ℕ) → contradicted c.name c.clock (tacks_shown c) (shown_two c t) ≡ eqb n 2
+    → ConnectionTwoFacts c t → (n : ℕ) → contradicted c.name c.clock (tacks_shown c) (raised_two c t) ≡ eqb n 2
     → Learned (tacks_of (tacks_shown c)) rows floor (judged_two c t) (entered_two c.name c.clock (tacks_shown c) n rows)
 unfolding judged_two
 judged-two-learned c t rows floor agrees facts passed n e =
@@ -278,14 +264,12 @@ judged-two-learned c t rows floor agrees facts passed n e =
 
 -- (b), 'before these removals': by the rows before the call
 pub contradicted-two-rows : (c : ConnectionTwo) (t : Table) (rows : List Row) (floor : List ℕ → ℕ) → Agrees t rows floor
-    → contradicted c.name c.clock (tacks_shown c) (shown_two c t) ≡ any (contradicts_two c) rows
+    → contradicted c.name c.clock (tacks_shown c) (raised_two c t) ≡ any (contradicts_two c) rows
 contradicted-two-rows c t rows floor agrees =
-    let shown = shown_each c.name c.clock (tacks_shown c) rows in
-    any-row (shown-agrees c.name c.clock (tacks_shown c) agrees) (λ r. active_of c.name c.clock r && not (key_shown (tacks_shown c) r.key))
+    any-row (raised-agrees (tacks_shown c) agrees) (λ r. active_of c.name c.clock r && not (key_shown (tacks_shown c) r.key))
     ∙ any-ext (λ r. (row_of c.name r && active c.clock (record_of r)) && not (key_shown (tacks_shown c) r.key)) (contradicts_two c)
     (λ r. ap (λ (b : Bool). (row_of c.name r && b) && not (key_shown (tacks_shown c) r.key)) (sym (live-active c.clock r))
-    ∙ turn (row_of c.name r) (live c.clock r) (not (key_shown (tacks_shown c) r.key))) shown
-    ∙ any-shown c.name c.clock (tacks_shown c) (contradicts_two c) (λ r. refl) rows
+    ∙ turn (row_of c.name r) (live c.clock r) (not (key_shown (tacks_shown c) r.key))) rows
   where
     turn : (x y z : Bool) → ((x && y) && z) ≡ (x && (z && y))
     turn true y z = and_comm y z

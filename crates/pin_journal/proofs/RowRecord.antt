@@ -1,10 +1,10 @@
--- The name record of a row of the journal: t and i make its end, and it has the row's last.
+-- The name record of a row of the journal: t and i make its end.
 use mathlib.Core.Path.{◌≡◌, refl}
 use mathlib.Core.Option.{Option, none, some}
 use Prim.Native.Nat.{ℕ, ◌+◌, ◌-◌, min}
-use Rattle.pin_model.specs.Table.{NameRecord, name_record, before, active, set_last}
+use Rattle.pin_model.specs.Table.{NameRecord, name_record, before, active}
 use Rattle.pin_model.specs.Judge.{extended_to}
-use Rattle.pin_journal.specs.Journal.{Row, live_by, live, activated_at, sighted_row}
+use Rattle.pin_journal.specs.Journal.{Row, live_by, live, seen_at}
 
 -- 't + min(43,200, t - i)'
 abbrev pub end_of : ℕ → Option ℕ → Option ℕ
@@ -12,7 +12,7 @@ end_of i none = none
 end_of i (some t) = some (t + min 43200 (t - i))
 
 abbrev pub record_of : Row → NameRecord
-record_of r = name_record r.name r.key r.i (end_of r.i r.t) r.last
+record_of r = name_record r.name r.key r.i (end_of r.i r.t)
 
 live-before : (clock i : ℕ) (t : Option ℕ) → live_by clock i t ≡ before clock (end_of i t)
 live-before clock i none = refl
@@ -23,9 +23,5 @@ pub live-active : (clock : ℕ) (r : Row) → live clock r ≡ active clock (rec
 live-active clock r = live-before clock r.i r.t
 
 -- an end is set in the table as t is in the journal
-pub extended-record : (clock : ℕ) (r : Row) → extended_to clock (record_of r) ≡ record_of (activated_at clock r)
+pub extended-record : (clock : ℕ) (r : Row) → extended_to clock (record_of r) ≡ record_of (seen_at clock r)
 extended-record clock r = refl
-
--- and last as it is there
-pub sighted-record : (clock : ℕ) (r : Row) → set_last clock (record_of r) ≡ record_of (sighted_row clock r)
-sighted-record clock r = refl

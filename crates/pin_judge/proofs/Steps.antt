@@ -9,7 +9,7 @@ use Rattle.pin_model.specs.Table.{clock_limit, Table, settled_at}
 use Rattle.pin_model.specs.Layout.{encode, decode}
 use Rattle.pin_model.specs.SoundTable.{sound_table}
 use Rattle.pin_model.specs.Connection.{unless_empty}
-use Rattle.pin_model.specs.Judge.{raise, sight, show_tack, extend, no_room_for, create, learn, no_room_in, break, steps, verdict_by}
+use Rattle.pin_model.specs.Judge.{raise, extend, no_room_for, create, learn, no_room_in, break, steps, verdict_by}
 use Rattle.pin_model.specs.Calls.{judgement}
 use Rattle.pin_model.proofs.Editions.{learned-edition}
 use Rattle.pin_records.specs.Holds.{Holds}
@@ -24,18 +24,15 @@ Learnt on may name clock t r d shown = (r ≡ no_room_in on may name clock shown
 
 -- u is what step 1 left
 pub ready-to-extend : {b name : List ℕ} {clock : ℕ} (tack : List ℕ) (u : Table) → u ≡ raise tack (decode b) → InOrder b name clock
-    → sound_table (settled_at clock u) ≡ true
-ready-to-extend {b} {name} {clock} tack u its known =
-    ap (λ (v : Table). sound_table (settled_at clock v)) its
-    ∙ raised-sound tack clock (decode b) known.admitted.table_sound known.clock_in_order known.admitted.clock_in_limit
+    → (sound_table (settled_at clock u) ≡ true) × (u.two ≡ false)
+ready-to-extend {b} {name} {clock} tack u its known = (
+  ap (λ (v : Table). sound_table (settled_at clock v)) its
+      ∙ raised-sound tack clock (decode b) known.admitted.table_sound known.clock_in_order known.admitted.clock_in_limit,
+  ap (λ (v : Table). v.two) its ∙ known.admitted.of_one,
+)
 
--- what the floor, last and the end leave, one after the other
-pub seen-after : (on : Bool) (name : List ℕ) (clock : ℕ) (tack : List ℕ) (t : Table) {a d : List ℕ} → Holds a (raise tack t)
-    → Holds d (extend on name clock tack (sight name clock tack (decode a))) → decode d ≡ extend on name clock tack (show_tack name clock tack t)
-seen-after on name clock tack t g h = holds-decode h ∙ ap (λ (u : Table). extend on name clock tack (sight name clock tack u)) (holds-decode g)
-
--- u is what they left
-pub ready-to-create : (on : Bool) (name : List ℕ) (clock : ℕ) (tack : List ℕ) (t u : Table) → u ≡ extend on name clock tack (show_tack name clock tack t)
+-- u is what steps 1 and 2(i) left
+pub ready-to-create : (on : Bool) (name : List ℕ) (clock : ℕ) (tack : List ℕ) (t u : Table) → u ≡ extend on name clock tack (raise tack t)
     → sound_table t ≡ true → t.two ≡ false → t.latest ≤ clock → clock ≤ clock_limit
     → (sound_table (settled_at clock u) ≡ true) × (u.two ≡ false)
 ready-to-create on name clock tack t u its h one in_order in_limit = (
@@ -48,7 +45,7 @@ module _ (on may : Bool) (name : List ℕ) (clock : ℕ) (tack : List ℕ) (t : 
       → (false ≡ no_room_in on may name clock (unless_empty tack) t) × Holds d (learn on may name clock (unless_empty tack) t)
   nothing-shown {d} e h = subst (λ (shown : Option (List ℕ)). Learnt on may name clock t false d shown) (sym e) (refl, h)
 
-  pub created : (u : Table) → u ≡ extend on name clock tack (show_tack name clock tack t) → {d : List ℕ} {r : Bool} → unless_empty tack ≡ some tack
+  pub created : (u : Table) → u ≡ extend on name clock tack (raise tack t) → {d : List ℕ} {r : Bool} → unless_empty tack ≡ some tack
       → (r ≡ no_room_for may name clock tack u) × Holds d (create may name clock tack u)
       → (r ≡ no_room_in on may name clock (unless_empty tack) t) × Holds d (learn on may name clock (unless_empty tack) t)
   created u its {d} {r} e w =

@@ -25,7 +25,7 @@ use pin_table::slots;
 use tack_extension::reader;
 use tack_extension::reader::Reading;
 
-// Steps 1 and 2, with last between them. The answer is 'no room'.
+// Steps 1 and 2. The answer is 'no room'.
 fn learn(
     area: &mut [u8],
     name: &[u8],
@@ -41,8 +41,11 @@ fn learn(
         return false;
     }
     raise::raise_floor(area, tack);
-    extend::update_pin(area, name, tack, clock, enabled);
-    create::create_record(area, name, tack, clock, enabled | learn_disabled)
+    if enabled {
+        extend::extend_pin(area, name, tack, clock);
+        return create::create_record(area, name, tack, clock, true);
+    }
+    create::create_record(area, name, tack, clock, learn_disabled)
 }
 
 // Steps 1 to 4, where nothing refuses.

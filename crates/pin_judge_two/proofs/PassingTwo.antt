@@ -21,20 +21,20 @@ use Rattle.pin_model.specs.Layout.{encode, decode}
 use Rattle.pin_model.specs.Sound.{sound}
 use Rattle.pin_model.specs.Connection.{ConnectionTwo, Shown, parts_two_of, shown_in, tacks_in, tacks_shown, named, folded_connection}
 use Rattle.pin_model.specs.Refusals.{first, area_tests, is_none, form_test, one_key_twice, parts_tests, any_revoked, tacks_tests, connection_two_tests}
-use Rattle.pin_model.specs.JudgeTwo.{shown_at, verdict_two, judged_two, no_room_two}
+use Rattle.pin_model.specs.JudgeTwo.{raised_at, verdict_two, judged_two, no_room_two}
 use Rattle.pin_model.specs.Calls.{Answer, judgement, judge_two, table_tests_of, refusal, answer_by, answer, area_by, area_after, answered, area_left}
 use Rattle.pin_model.proofs.First.{first-here, first-later}
 use Rattle.pin_model.proofs.LongNames.{judge-two-handed}
 use Rattle.pin_model.proofs.TacksShown.{good-tacks}
 use Rattle.pin_model.proofs.SoundFacts.{sound-facts}
-use Rattle.pin_model.proofs.SoundTwo.{shown-stage}
+use Rattle.pin_model.proofs.SoundTwo.{raised-stage}
 use Rattle.pin_refusals.proofs.Passed.{area-passes, call-refused, Ready, ready}
 use Rattle.pin_answers.specs.Numbers.{refusal_number, checked_number}
 use Rattle.pin_answers.specs.declared.Refusal.{Refusal}
 use Rattle.pin_answers.specs.declared.Checked.{Checked}
 use Rattle.pin_answers.specs.declared.Checked.TheVariants as checked
 use Rattle.pin_refusals_two.specs.Parts.{tacks_by, both_tacks, TackParts}
-use Rattle.pin_steps_two.specs.BegunTwo.{BegunTwo}
+use Rattle.pin_steps_two.specs.SettledTwo.{SettledTwo}
 use Rattle.pin_steps_two.specs.StepsTwo.{steps_two, steps_answer_two}
 use Rattle.pin_steps_two.proofs.OwnPins.{from-stage}
 use Rattle.pin_judge_two.specs.KnownTwo.{AdmittedTwo, InOrderTwo}
@@ -61,9 +61,9 @@ sized s p e =
 
 -- the steps' requirement, after 14
 pub in-order-settled : {area name : List ℕ} {clock : ℕ} (first second : List ℕ) (flags : ℕ) → InOrderTwo area name clock
-    → BegunTwo clock (shown_at name clock (tacks_by first second flags) (decode area))
+    → SettledTwo clock (raised_at clock (tacks_by first second flags) (decode area))
 in-order-settled {area} {name} {clock} f s flags known =
-    from-stage (shown-stage name clock (tacks_by f s flags) (sound-facts (decode area) known.admitted.table_sound)
+    from-stage (raised-stage name clock (tacks_by f s flags) (sound-facts (decode area) known.admitted.table_sound)
     known.admitted.of_edition_two known.clock_in_order known.admitted.clock_in_limit)
 
 -- the answer and the area by a refusal, or by none

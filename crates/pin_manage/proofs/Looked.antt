@@ -21,7 +21,7 @@ use Rattle.pin_model.proofs.First.{first-here, first-later}
 use Rattle.pin_model.proofs.FloorByte.{floor-placed}
 use Rattle.pin_table.specs.declared.slots.NameSlot.{NameSlot}
 use Rattle.pin_records.specs.Holds.{Stored}
-use Rattle.pin_records.specs.Find.{is_free, first_slot, second_slot, name_found, initial_at, end_at, last_at}
+use Rattle.pin_records.specs.Find.{is_free, first_slot, second_slot, name_found, initial_at, end_at}
 use Rattle.pin_records.specs.Read.{end_found, pinned_key}
 use Rattle.pin_records.specs.declared.read.PinEnd.TheVariants as pin-end
 use Rattle.pin_records.specs.declared.find.FoundName.TheVariants as name-found
@@ -100,29 +100,28 @@ module _ (second : Bool) (b name : List ℕ) (clock : ℕ) where
     inspect-found n f = inspect-at n.0 (name-there (record_slot second name (decode b).names) n f).1
 
 -- what a slot's record says, from what its fields say
-module _ (clock : ℕ) (keys : List (Option KeyRecord)) (floor initial last : ℕ) where
+module _ (clock : ℕ) (keys : List (Option KeyRecord)) (floor initial : ℕ) where
   pub said-without-end : (slot : Option NameRecord) → is_free slot ≡ false → floor ≡ floor_at (get_or keys (pinned_key keys slot) none) → initial ≡ initial_at slot
-      → last ≡ last_at slot → pin-end.Absent ≡ end_found (end_at slot) → inspected_with clock floor initial none last ≡ inspected_slot clock keys slot
-  said-without-end none u f i l e = absurd (true≢false u)
-  said-without-end (some r) u f i l e =
+      → pin-end.Absent ≡ end_found (end_at slot) → inspected_with clock floor initial none ≡ inspected_slot clock keys slot
+  said-without-end none u f i e = absurd (true≢false u)
+  said-without-end (some r) u f i e =
       by_option r.end
       (λ end g. let k : pin-end.Absent ≡ pin-end.At (record { 0 = end }) = e ∙ ap end_found g in clash (cc))
-      (λ g. rw (g, i, l, f, floor-placed r.key keys) refl)
+      (λ g. rw (g, i, f, floor-placed r.key keys) refl)
 
   pub said-with-end : (slot : Option NameRecord) (end : Minutes) → is_free slot ≡ false → floor ≡ floor_at (get_or keys (pinned_key keys slot) none)
-      → initial ≡ initial_at slot → last ≡ last_at slot → pin-end.At end ≡ end_found (end_at slot)
-      → inspected_with clock floor initial (some end.0) last ≡ inspected_slot clock keys slot
-  said-with-end none end u f i l e = absurd (true≢false u)
-  said-with-end (some r) end u f i l e =
+      → initial ≡ initial_at slot → pin-end.At end ≡ end_found (end_at slot) → inspected_with clock floor initial (some end.0) ≡ inspected_slot clock keys slot
+  said-with-end none end u f i e = absurd (true≢false u)
+  said-with-end (some r) end u f i e =
       by_option r.end
       (λ x g.
       let k : pin-end.At end ≡ pin-end.At (record { 0 = x }) = e ∙ ap end_found g in
       let its : end ≡ record { 0 = x } = cc in
       let at : end.0 ≡ x = ap (λ (m : Minutes). m.0) its in
-      rw (g, at, i, l, f, floor-placed r.key keys) refl)
+      rw (g, at, i, f, floor-placed r.key keys) refl)
       (λ g. let k : pin-end.At end ≡ pin-end.Absent = e ∙ ap end_found g in clash (cc))
 
 -- the answer with an end, from the numbers that stand in it
-pub answer-with-end : (floor initial end last clock : ℕ) {e : ℕ} {left : ℤ} → e ≡ end → left ≡ pos end -ℤ pos clock
-    → ◌≡◌ {A = Answer} (answer_of false 6 false floor initial e last left) (inspected_with clock floor initial (some end) last)
-answer-with-end floor initial end last clock he hl = rw (he, hl) refl
+pub answer-with-end : (floor initial end clock : ℕ) {e : ℕ} {left : ℤ} → e ≡ end → left ≡ pos end -ℤ pos clock
+    → ◌≡◌ {A = Answer} (answer_of false 6 false floor initial e left) (inspected_with clock floor initial (some end))
+answer-with-end floor initial end clock he hl = rw (he, hl) refl

@@ -14,4 +14,4 @@ record_slot true name names = second_slot (holds (name_is name)) names
 
 abbrev pub inspected_slot : ℕ → List (Option KeyRecord) → Option NameRecord → Answer
 inspected_slot clock keys none = plain 4
-inspected_slot clock keys (some r) = inspected_with clock (floor_of r.key (used keys)) r.initial r.end r.last
+inspected_slot clock keys (some r) = inspected_with clock (floor_of r.key (used keys)) r.initial r.end

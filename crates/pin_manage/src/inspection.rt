@@ -41,18 +41,12 @@ fn inspect_slot(area: &[u8], n: NameSlot, clock: Minutes) -> Inspection
 {
     let floor = read::floor(area, read::key_of(area, n));
     let initial = read::initial(area, n).count();
-    let last = read::last(area, n).count();
     match read::end(area, n) {
-        PinEnd::Absent => Inspection::WithoutEnd {
-            floor,
-            initial,
-            last,
-        },
+        PinEnd::Absent => Inspection::WithoutEnd { floor, initial },
         PinEnd::At(end) => Inspection::WithEnd {
             floor,
             initial,
             end: end.count(),
-            last,
             minutes_left: minutes_between(clock, end),
         },
     }

@@ -98,6 +98,6 @@ added-keeps name clock tack {left} facts names alike long room few own formed in
           keyed-recorded tack facts room k ∙ ap (λ (b : Bool). same (public_key tack) k || b) (facts.recorded_while_pinned k)
           ∙ sym (alike-any (used names) (new_name name clock tack ∷ used left.names) alike (pinned_to k));
       names_sound =
-          alike_all (sound_name false left.latest) (used names) (new_name name clock tack ∷ used left.names) alike
-          (rw (formed, le-leb clock clock (omega arith), le-leb clock left.latest in_order) facts.names_sound);
+          alike_all (sound_name left.latest) (used names) (new_name name clock tack ∷ used left.names) alike
+          (rw (formed, le-leb clock left.latest in_order) facts.names_sound);
     }

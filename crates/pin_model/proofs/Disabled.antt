@@ -7,37 +7,33 @@ use mathlib.Core.Option.{Option, none, some}
 use Prim.Native.Nat.{ℕ}
 use borrow.Author.Tests.{not-true}
 use Rattle.octets.proofs.Tests.{and_left, and_right}
-use Rattle.tack_extension.specs.Tack.{public_key}
 use Rattle.pin_model.specs.Slots.{used, freed}
-use Rattle.pin_model.specs.Table.{NameRecord, Table, holding, pin_is, set_last}
+use Rattle.pin_model.specs.Table.{NameRecord, Table, holding}
 use Rattle.pin_model.specs.Layout.{decode}
 use Rattle.pin_model.specs.declared.Checks.{Checks}
 use Rattle.pin_model.specs.Connection.{Connection, parts_of, tack_shown, enabled, may_record, breaks_shown, broken_keys, listed, folded_connection}
 use Rattle.pin_model.specs.Refusals.{tack_tests}
-use Rattle.pin_model.specs.Judge.{show_tack, extended_to, extend, learn, no_room_in, steps, judged, verdict, no_room}
+use Rattle.pin_model.specs.Judge.{extended_to, extend, raise, learn, no_room_in, steps, judged, verdict, no_room}
 use Rattle.pin_model.specs.Calls.{judge, is_verdict, refusal, unrefused, answer_by, answer, area_after, answered, area_left}
 use Rattle.pin_model.specs.Demand1.{is_refusal}
-use Rattle.pin_model.specs.Disabled.{may_not_record, but_for_last, choosing, with_choice, DisabledServers}
+use Rattle.pin_model.specs.Disabled.{may_not_record, choosing, with_choice, DisabledServers}
 use Rattle.pin_model.proofs.Lists.{any-nothing}
-use Rattle.pin_model.proofs.Slots.{changed-over, changed-freed}
 use Rattle.pin_model.proofs.OneSlot.{changed-none}
 use Rattle.pin_model.proofs.AreaKept.{refused-after, passed-table}
 use Rattle.pin_model.proofs.Verdicts.{verdict-passed, verdict-sound}
 use Rattle.pin_model.proofs.Recorded.{after-recorded}
 use Rattle.pin_model.proofs.Demand1.{was-refused}
 
--- where activation is disabled nothing is extended; last is set, and nothing else
+-- where activation is disabled nothing is extended
 pub not_extended : (name tack : List ℕ) (clock : ℕ) (t : Table) → extend false name clock tack t ≡ t
 not_extended name tack clock t =
     ap (λ (names : List (Option NameRecord)). holding t t.keys names)
     (changed-none (λ r. false) (extended_to clock) t.names (any-nothing (used t.names)))
 
 module _ (name : List ℕ) (clock : ℕ) (t : Table) where
-  names-stay : (shown : Option (List ℕ)) → but_for_last (learn false false name clock shown t).names ≡ but_for_last t.names
+  names-stay : (shown : Option (List ℕ)) → (learn false false name clock shown t).names ≡ t.names
   names-stay none = refl
-  names-stay (some tack) =
-      ap (λ (u : Table). but_for_last u.names) (not_extended name tack clock (show_tack name clock tack t))
-      ∙ changed-over (λ r. pin_is name (public_key tack) r) (set_last clock) (set_last 0) (λ r. refl) t.names
+  names-stay (some tack) = ap (λ (u : Table). u.names) (not_extended name tack clock (raise tack t))
 
   room-unwanted : (shown : Option (List ℕ)) → no_room_in false false name clock shown t ≡ false
   room-unwanted none = refl
@@ -53,13 +49,11 @@ module _ (c : Connection) (nothing : may_not_record c ≡ true) where
       ap₂ (λ (a b : Bool). a || b) off
       (not-true c.checks.learn_disabled (and_right (not (enabled c)) (not c.checks.learn_disabled) nothing))
 
-  judged-names : (t : Table) → but_for_last (judged c t).names ≡ freed (λ r. listed (broken_keys c) r.key) (but_for_last t.names)
+  judged-names : (t : Table) → (judged c t).names ≡ freed (λ r. listed (broken_keys c) r.key) t.names
   unfolding judged
   judged-names t =
-      let gone : NameRecord → Bool = λ r. listed (broken_keys c) r.key in
-      changed-freed gone (set_last 0) (λ r. refl) (learn (enabled c) (may_record c) c.name c.clock (tack_shown c) t).names
-      ∙ ap (freed gone)
-      (ap₂ (λ (on may : Bool). but_for_last (learn on may c.name c.clock (tack_shown c) t).names) off may-not
+      ap (λ (names : List (Option NameRecord)). freed (λ r. listed (broken_keys c) r.key) names)
+      (ap₂ (λ (on may : Bool). (learn on may c.name c.clock (tack_shown c) t).names) off may-not
       ∙ names-stay c.name c.clock t (tack_shown c))
 
   judged-room : (t : Table) → no_room c t ≡ false
@@ -69,10 +63,10 @@ module _ (c : Connection) (nothing : may_not_record c ≡ true) where
       ∙ room-unwanted c.name c.clock t (tack_shown c)
 
   after-names : (b : List ℕ) → is_verdict (answer (judge c) b).number ≡ true
-      → but_for_last (decode (area_after (judge c) b)).names ≡ freed (λ r. listed (broken_keys c) r.key) (but_for_last (decode b).names)
+      → (decode (area_after (judge c) b)).names ≡ freed (λ r. listed (broken_keys c) r.key) (decode b).names
   after-names b h =
       let passed = verdict-passed c b h in
-      ap (λ (u : Table). but_for_last u.names) (passed-table (judge c) b (verdict-sound c b passed) passed) ∙ judged-names (decode b)
+      ap (λ (u : Table). u.names) (passed-table (judge c) b (verdict-sound c b passed) passed) ∙ judged-names (decode b)
 
   after-room : (b : List ℕ) → (answer (judge c) b).no_room ≡ false
   unfolding answer

@@ -14,7 +14,7 @@ use Rattle.octets.specs.Search.{every}
 use Rattle.octets.proofs.Tests.{by_test}
 use Rattle.pin_model.specs.Table.{clock_limit, Table}
 use Rattle.pin_model.specs.Layout.{area_length, latest_in, of_two}
-use Rattle.pin_model.specs.Sound.{head_sound, keys_shaped, keys_distinct, names_shaped, name_twice, pin_twice, name_thrice, name_again, names_distinct, names_keyed, keys_named, sound_in}
+use Rattle.pin_model.specs.Sound.{head_sound, keys_shaped, keys_distinct, names_shaped, name_twice, pin_twice, name_thrice, name_again, names_distinct, names_keyed, keys_named, sound}
 use Rattle.pin_model.specs.Connection.{Connection}
 use Rattle.pin_model.specs.Refusals.{connection_tests, first}
 use Rattle.pin_model.specs.Calls.{judge, start, table_tests_of, area_after}
@@ -28,10 +28,10 @@ head_sound_before b = leb (latest_in b) clock_limit && all_zero (part b 4 4)
 abbrev pub names_distinct_before : List ℕ → Bool
 names_distinct_before b = every (λ n. not (name_twice b n)) 128
 
-abbrev pub sound_before : Bool → List ℕ → Bool
-sound_before old b =
+abbrev pub sound_before : List ℕ → Bool
+sound_before b =
     eqb (length b) area_length && (head_sound_before b && (keys_shaped b && (keys_distinct b
-    && (names_shaped old b && (names_distinct_before b && (names_keyed b && keys_named b))))))
+    && (names_shaped b && (names_distinct_before b && (names_keyed b && keys_named b))))))
 
 -- byte 4 and bytes 5-7
 four-zeros : (b : List ℕ) → length b ≡ area_length → all_zero (part b 4 4) ≡ (eqb (get_or b 4 0) 0 && all_zero (part b 5 3))
@@ -59,12 +59,11 @@ head-before b long =
     byte true z (suc (suc n)) =
         rw (ne_eqb (suc (suc n)) 0 (λ e. omega arith), lt-leb (suc (suc n)) 1 (omega arith))
 
--- in the sense of document 02, Q-8, as in the one before it
-pub sound-before : (old : Bool) (b : List ℕ) → sound_before old b ≡ (sound_in old b && not (of_two b))
-unfolding sound_in
-sound-before old b = by_test (eqb (length b) area_length) long short
+pub sound-before : (b : List ℕ) → sound_before b ≡ (sound b && not (of_two b))
+unfolding sound
+sound-before b = by_test (eqb (length b) area_length) long short
   where
-    short : eqb (length b) area_length ≡ false → sound_before old b ≡ (sound_in old b && not (of_two b))
+    short : eqb (length b) area_length ≡ false → sound_before b ≡ (sound b && not (of_two b))
     short e = rw e
 
     turn : (h two k d n m x y : Bool)
@@ -77,13 +76,13 @@ sound-before old b = by_test (eqb (length b) area_length) long short
     swap true h k d n x y before after e = ap₂ ◌&&◌ (and-false h) refl ∙ sym (ap₂ ◌&&◌ (and-false h) refl)
     swap false h k d n x y before after e = ap (λ (a : Bool). (h && true) && (k && (d && (n && (a && (x && y)))))) (sym (e refl))
 
-    long : eqb (length b) area_length ≡ true → sound_before old b ≡ (sound_in old b && not (of_two b))
+    long : eqb (length b) area_length ≡ true → sound_before b ≡ (sound b && not (of_two b))
     long e =
         rw e
-        (ap (λ (h : Bool). h && (keys_shaped b && (keys_distinct b && (names_shaped old b && (names_distinct_before b && (names_keyed b && keys_named b))))))
+        (ap (λ (h : Bool). h && (keys_shaped b && (keys_distinct b && (names_shaped b && (names_distinct_before b && (names_keyed b && keys_named b))))))
         (head-before b (eqb-true (length b) area_length e))
-        ∙ swap (of_two b) (head_sound b) (keys_shaped b) (keys_distinct b) (names_shaped old b) (names_keyed b) (keys_named b) (names_distinct_before b) (names_distinct b) (names-before b)
-        ∙ turn (head_sound b) (of_two b) (keys_shaped b) (keys_distinct b) (names_shaped old b) (names_distinct b) (names_keyed b) (keys_named b))
+        ∙ swap (of_two b) (head_sound b) (keys_shaped b) (keys_distinct b) (names_shaped b) (names_keyed b) (keys_named b) (names_distinct_before b) (names_distinct b) (names-before b)
+        ∙ turn (head_sound b) (of_two b) (keys_shaped b) (keys_distinct b) (names_shaped b) (names_distinct b) (names_keyed b) (keys_named b))
 
 -- 27 is not given
 pub refused-before : (c : Connection) (t : Table) → t.two ≡ false → first (table_tests_of (judge c) t) ≡ first (connection_tests c t)

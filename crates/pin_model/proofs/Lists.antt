@@ -10,7 +10,7 @@ use lib.Dec.{ltb}
 use lib.ListN.{length, drop}
 use borrow.Author.Tests.{ltb-true, ltb-false, lt-ltb}
 use Rattle.octets.specs.Octets.{all, any}
-use Rattle.octets.proofs.Tests.{by_test, is_false, both_ways, and_left, and_right, and_both}
+use Rattle.octets.proofs.Tests.{is_false, both_ways, and_left, and_right, and_both}
 pub use Rattle.pin_model.specs.Slots.{bit, count}
 use Rattle.pin_model.specs.Slots.{struck, rewritten}
 
@@ -88,36 +88,10 @@ module _ {A : Type 0} where
   all_append p [] m e f = f
   all_append p (x ∷ l) m e f = and_both (p x) (all p (l ++ m)) (and_left (p x) (all p l) e) (all_append p l m (and_right (p x) (all p l) e) f)
 
-  pub all_both : (p q : A → Bool) (l : List A) → all p l ≡ true → all q l ≡ true → all (λ x. p x && q x) l ≡ true
-  all_both p q [] e d = refl
-  all_both p q (x ∷ xs) e d =
-      and_both (p x && q x) (all (λ x. p x && q x) xs)
-      (and_both (p x) (q x) (and_left (p x) (all p xs) e) (and_left (q x) (all q xs) d))
-      (all_both p q xs (and_right (p x) (all p xs) e) (and_right (q x) (all q xs) d))
-
-  pub all_true : (l : List A) → all (λ x. true) l ≡ true
-  all_true [] = refl
-  all_true (x ∷ xs) = all_true xs
-
   pub all-implied : (p q : A → Bool) → ((x : A) → p x ≡ true → q x ≡ true) → (l : List A) → all p l ≡ true → all q l ≡ true
   all-implied p q h [] e = refl
   all-implied p q h (x ∷ xs) e =
       and_both (q x) (all q xs) (h x (and_left (p x) (all p xs) e)) (all-implied p q h xs (and_right (p x) (all p xs) e))
-
-  -- what is left of a list passes what the list did; what passes q, changed or not, passes p
-  pub all-struck : (p q : A → Bool) (l : List A) → all p l ≡ true → all p (struck q l) ≡ true
-  all-struck p q [] e = refl
-  all-struck p q (x ∷ xs) e =
-      by_test (q x)
-      (λ h. rw h (all-struck p q xs (and_right (p x) (all p xs) e)))
-      (λ h. rw h (and_both (p x) (all p (struck q xs)) (and_left (p x) (all p xs) e) (all-struck p q xs (and_right (p x) (all p xs) e))))
-
-  pub all-rewritten : (p q test : A → Bool) (f : A → A) → ((x : A) → q x ≡ true → p (cond (test x) (f x) x) ≡ true)
-      → (l : List A) → all q l ≡ true → all p (rewritten test f l) ≡ true
-  all-rewritten p q test f h [] e = refl
-  all-rewritten p q test f h (x ∷ xs) e =
-      and_both (p (cond (test x) (f x) x)) (all p (rewritten test f xs)) (h x (and_left (q x) (all q xs) e))
-      (all-rewritten p q test f h xs (and_right (q x) (all q xs) e))
 
   pub any-not : (p : A → Bool) (l : List A) → any (λ x. not (p x)) l ≡ not (all p l)
   any-not p [] = refl
@@ -257,12 +231,3 @@ module _ {A B : Type 0} (f : A → B) where
       go : (b : Bool) → cond b (g (f x)) (f x) ≡ f (cond b (h x) x)
       go true = e x
       go false = refl
-
--- each element of a list stands in it
-pub all-stand : {A : Type 0} (alike : A → A → Bool) → ((x : A) → alike x x ≡ true) → (l : List A) → all (λ x. any (alike x) l) l ≡ true
-all-stand alike h [] = refl
-all-stand alike h (x ∷ xs) =
-    and_both (any (alike x) (x ∷ xs)) (all (λ y. any (alike y) (x ∷ xs)) xs)
-    (ap (λ (b : Bool). b || any (alike x) xs) (h x))
-    (all-implied (λ y. any (alike y) xs) (λ y. any (alike y) (x ∷ xs))
-    (λ y e. ap (λ (b : Bool). alike y x || b) e ∙ or-true (alike y x)) xs (all-stand alike h xs))

@@ -15,7 +15,7 @@ use Rattle.pin_model.specs.Layout.{decode}
 use Rattle.pin_model.specs.Connection.{Connection, tack_shown, shows, ConnectionTwo, tacks_shown}
 use Rattle.pin_model.specs.Refusals.{tack_tests, part_tests}
 use Rattle.pin_model.specs.Judge.{active_of, judged, verdict}
-use Rattle.pin_model.specs.JudgeTwo.{shown_two, contradicted, verdict_two}
+use Rattle.pin_model.specs.JudgeTwo.{raised_two, contradicted, verdict_two}
 use Rattle.pin_model.specs.Calls.{Call, judge, judge_two, delete, inspect, start, is_verdict, Answer, plain, area_tests_of, table_tests_of, tests_of, refusal, floor_of, inspected_with, inspected_in, inspected_second, inspected_by, unrefused}
 use Rattle.pin_model.specs.Demand1.{results_of, refusals_of, is_one_of, is_refusal}
 use Rattle.pin_model.proofs.Lists.{cond_either, any-drop, all-implied, all_append}
@@ -98,8 +98,8 @@ verdict-two-listed : (c : ConnectionTwo) (t : Table) → is_one_of verdicts (ver
 unfolding verdict_two
 verdict-two-listed c t =
     let Right : ℕ → Type 0 = λ n. is_one_of verdicts n ≡ true in
-    let pinned = any (active_of c.name c.clock) (used (shown_two c t).names) in
-    cond_either Right (contradicted c.name c.clock (tacks_shown c) (shown_two c t)) 2 (cond pinned 1 0)
+    let pinned = any (active_of c.name c.clock) (used (raised_two c t).names) in
+    cond_either Right (contradicted c.name c.clock (tacks_shown c) (raised_two c t)) 2 (cond pinned 1 0)
     refl (cond_either Right pinned 1 0 refl refl)
 
 pub verdict-number : (c : Connection) (t : Table) → is_verdict (verdict c t) ≡ true
@@ -110,11 +110,11 @@ verdict-two-number c t = one_of is_verdict verdicts (verdict_two c t) refl (verd
 
 -- in edition two it is 2 exactly if contradicted
 pub verdict-is-2 : (c : ConnectionTwo) (t : Table)
-    → contradicted c.name c.clock (tacks_shown c) (shown_two c t) ≡ eqb (verdict_two c t) 2
+    → contradicted c.name c.clock (tacks_shown c) (raised_two c t) ≡ eqb (verdict_two c t) 2
 unfolding verdict_two
 verdict-is-2 c t =
-    go (contradicted c.name c.clock (tacks_shown c) (shown_two c t))
-    (any (active_of c.name c.clock) (used (shown_two c t).names))
+    go (contradicted c.name c.clock (tacks_shown c) (raised_two c t))
+    (any (active_of c.name c.clock) (used (raised_two c t).names))
   where
     go : (a b : Bool) → a ≡ eqb (cond a 2 (cond b 1 0)) 2
     go true b = refl
@@ -123,13 +123,13 @@ verdict-is-2 c t =
 
 -- an inspection answers 4, or 5 or 6 with a record's fields
 module _ (P : Answer → Type 0) (None-found : P (plain 4)) (clock : ℕ)
-    (found : (floor initial : ℕ) (end : Option ℕ) (last : ℕ) → P (inspected_with clock floor initial end last))
+    (found : (floor initial : ℕ) (end : Option ℕ) → P (inspected_with clock floor initial end))
     (name : List ℕ) (keys : List KeyRecord) where
   inspected-either : (names : List NameRecord) → P (inspected_in name clock keys names)
   inspected-either [] = None-found
   inspected-either (r ∷ rs) =
-      cond_either P (name_is name r) (inspected_with clock (floor_of r.key keys) r.initial r.end r.last)
-      (inspected_in name clock keys rs) (found (floor_of r.key keys) r.initial r.end r.last) (inspected-either rs)
+      cond_either P (name_is name r) (inspected_with clock (floor_of r.key keys) r.initial r.end)
+      (inspected_in name clock keys rs) (found (floor_of r.key keys) r.initial r.end) (inspected-either rs)
 
   second-either : (names : List NameRecord) → P (inspected_second name clock keys names)
   second-either [] = None-found
@@ -149,9 +149,9 @@ result-listed (delete name) t = cond_either (λ (n : ℕ). is_one_of (3 ∷ 4 �
 result-listed (inspect second name clock) t =
     by-either (λ a. is_one_of (4 ∷ 5 ∷ 6 ∷ []) a.number ≡ true) refl clock found name (used t.keys) second (used t.names)
   where
-    found : (floor initial : ℕ) (end : Option ℕ) (last : ℕ) → is_one_of (4 ∷ 5 ∷ 6 ∷ []) (inspected_with clock floor initial end last).number ≡ true
-    found floor initial none last = refl
-    found floor initial (some end) last = refl
+    found : (floor initial : ℕ) (end : Option ℕ) → is_one_of (4 ∷ 5 ∷ 6 ∷ []) (inspected_with clock floor initial end).number ≡ true
+    found floor initial none = refl
+    found floor initial (some end) = refl
 result-listed (start two) t = refl
 
 -- and "no room" is a judgement's
@@ -162,9 +162,9 @@ result-room (delete name) t e = absurd (false≢true e)
 result-room (inspect second name clock) t e =
     absurd (false≢true (sym (by-either (λ a. a.no_room ≡ false) refl clock found name (used t.keys) second (used t.names)) ∙ e))
   where
-    found : (floor initial : ℕ) (end : Option ℕ) (last : ℕ) → (inspected_with clock floor initial end last).no_room ≡ false
-    found floor initial none last = refl
-    found floor initial (some end) last = refl
+    found : (floor initial : ℕ) (end : Option ℕ) → (inspected_with clock floor initial end).no_room ≡ false
+    found floor initial none = refl
+    found floor initial (some end) = refl
 result-room (start two) t e = absurd (false≢true e)
 
 -- 0 to 7 are results, 10 and above refusals

@@ -1,5 +1,5 @@
 -- With the yes a tack's name has a record after the call, or there was no room (document 02, Q-7).
-use mathlib.Core.Path.{◌≡◌, refl, ◌∙◌, ap, ap₂}
+use mathlib.Core.Path.{◌≡◌, refl, sym, ◌∙◌, ap, ap₂}
 use mathlib.Core.Bool.{Bool, true, false, cond, not, ◌&&◌, ◌||◌, true≢false, or-true}
 use mathlib.Core.List.{List, [], ◌∷◌}
 use mathlib.Core.Option.{Option, none, some}
@@ -9,12 +9,12 @@ use Rattle.octets.specs.Octets.{any}
 use Rattle.octets.proofs.Tests.{and_left}
 use Rattle.octets.proofs.Equal.{same_refl}
 use Rattle.tack_extension.specs.Tack.{public_key}
-use Rattle.pin_model.specs.Slots.{used}
+use Rattle.pin_model.specs.Slots.{used, freed}
 use Rattle.pin_model.specs.Table.{clock_limit, NameRecord, Table, name_is, pinned_to, active, name_recorded, without}
 use Rattle.pin_model.specs.Layout.{decode}
-use Rattle.pin_model.specs.Connection.{Connection, tack_shown, enabled, may_record, broken_keys}
+use Rattle.pin_model.specs.Connection.{Connection, tack_shown, enabled, may_record, broken_keys, listed}
 use Rattle.pin_model.specs.Refusals.{is_none}
-use Rattle.pin_model.specs.Judge.{show_tack, extend, wants_record, room_for, no_room_for, new_name, names_with, with_record, create, learn, no_room_in, judged, no_room}
+use Rattle.pin_model.specs.Judge.{raise, extend, wants_record, room_for, no_room_for, new_name, names_with, with_record, create, learn, no_room_in, judged, no_room}
 use Rattle.pin_model.specs.Calls.{judge, is_verdict, refusal, answer, unrefused, answer_by, area_after}
 use Rattle.pin_model.proofs.Lists.{any-implied, any-nothing, alike-any}
 use Rattle.pin_model.proofs.Slots.{freed-none}
@@ -56,7 +56,7 @@ learned-recorded : (on : Bool) (name : List ℕ) (clock : ℕ) (tack : List ℕ)
     → t.latest ≤ clock → clock ≤ clock_limit
     → (name_recorded name (learn on true name clock (some tack) t) || no_room_in on true name clock (some tack) t) ≡ true
 learned-recorded on name clock tack t facts one in_order in_limit =
-    let u : Table = extend on name clock tack (show_tack name clock tack t) in
+    let u : Table = extend on name clock tack (raise tack t) in
     ap (λ (v : Table). name_recorded name v || no_room_for true name clock tack u) (create-settled true name clock tack u)
     ∙ created-recorded name clock tack (extended-facts name clock facts one in_order in_limit on tack) one
 

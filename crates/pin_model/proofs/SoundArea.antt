@@ -1,6 +1,6 @@
 -- A sound area is the area of its table, which is sound; so an area is sound exactly when it is the area of a sound table.
 use mathlib.Core.Path.{◌≡◌, refl, sym, ◌∙◌, ap, ap₂}
-use mathlib.Core.Bool.{Bool, true, false}
+use mathlib.Core.Bool.{true}
 use mathlib.Core.List.{List, ◌∷◌, ◌++◌}
 use mathlib.Core.Option.{Option, none, some}
 use mathlib.Core.Logic.{◌↔◌}
@@ -20,7 +20,7 @@ use Rattle.pin_model.specs.Slots.{used, apart}
 use Rattle.pin_model.specs.Table.{clock_limit, KeyRecord, Table, key_is, pinned_to}
 use Rattle.pin_model.specs.Layout.{joined, key_at, encode_key, decode_key, encode_name, decode_name, edition_byte, encode, keys_in, names_in, decode, latest_in, of_two, key_slot, name_slot, is_used, key_number}
 use Rattle.pin_model.specs.Sound.{key_shaped, keys_shaped, name_shaped, names_shaped, refers_to, key_named, keys_named, sound}
-use Rattle.pin_model.specs.SoundTable.{sound_name, sound_table_in, sound_table}
+use Rattle.pin_model.specs.SoundTable.{sound_name, sound_table}
 use Rattle.pin_model.specs.Fits.{key_fits, keys_whole, Fits}
 use Rattle.pin_model.proofs.Places.{any_at, all_from}
 use Rattle.pin_model.proofs.Cut.{part_then, part-last, zero-part, part_bytes, number-part}
@@ -35,7 +35,7 @@ use Rattle.pin_model.proofs.SoundTable.{sound-table-fits}
 use Rattle.pin_model.proofs.SoundEncode.{sound-encode}
 use Rattle.pin_model.proofs.Rules.{Rules, rules-of}
 
-module _ (old : Bool) (b : List ℕ) (r : Rules old b) where
+module _ (b : List ℕ) (r : Rules b) where
   abbrev keys : List (Option KeyRecord)
   keys = keys_in b
 
@@ -47,9 +47,9 @@ module _ (old : Bool) (b : List ℕ) (r : Rules old b) where
   unfolding name_slot
   name-slot-length n l = part_length b (4616 + 272 * n) 272 (omega (arith, r.whole))
 
-  name-slot-shaped : (n : ℕ) → n < 128 → name_shaped old (latest_in b) (name_slot b n) ≡ true
+  name-slot-shaped : (n : ℕ) → n < 128 → name_shaped (latest_in b) (name_slot b n) ≡ true
   unfolding names_shaped
-  name-slot-shaped n l = every-at (λ n. name_shaped old (latest_in b) (name_slot b n)) 128 n r.names_right l
+  name-slot-shaped n l = every-at (λ n. name_shaped (latest_in b) (name_slot b n)) 128 n r.names_right l
 
   keys-apart : apart (λ k j. key_is k.key j) (used keys) ≡ true
   keys-apart = sym (keys-distinct b) ∙ r.no_key_twice
@@ -90,17 +90,17 @@ module _ (old : Bool) (b : List ℕ) (r : Rules old b) where
       (λ u. rw (used-key-at b r.no_key_twice r.keyed_names k m u) (key-pinned k (key_read b r.no_key_twice r.keyed_names k) m u (used-key-at b r.no_key_twice r.keyed_names k m u)))
       (λ u. rw (keys-in-at b k m ∙ decode-free-key (key_slot b k) u)))
 
-  names-sound : all (sound_name old (latest_in b)) (used (names_in keys b)) ≡ true
+  names-sound : all (sound_name (latest_in b)) (used (names_in keys b)) ≡ true
   names-sound =
-      all_from (sound_name old (latest_in b)) (names_in keys b) (λ n l.
+      all_from (sound_name (latest_in b)) (names_in keys b) (λ n l.
       let m : n < 128 = omega (arith, names-in-length b keys) in
-      rw (names-in-at b keys n m) (decode-name-sound old keys (latest_in b) (name_slot b n) (name-slot-shaped n m)))
+      rw (names-in-at b keys n m) (decode-name-sound keys (latest_in b) (name_slot b n) (name-slot-shaped n m)))
 
   repeats : Few b r.no_key_twice r.keyed_names (of_two b)
   repeats = distinct-few b r.no_key_twice r.keyed_names r.no_name_twice
 
-  pub table-sound-in : sound_table_in old (decode b) ≡ true
-  table-sound-in =
+  pub table-sound : sound_table (decode b) ≡ true
+  table-sound =
       rw (
         le-leb (latest_in b) clock_limit r.latest_sound,
         eq-eqb (length keys) 64 (keys-in-length b),
@@ -130,7 +130,7 @@ module _ (old : Bool) (b : List ℕ) (r : Rules old b) where
 
     name-written : (n : ℕ) → n < 128 → encode_name keys (decode_name keys (name_slot b n)) ≡ name_slot b n
     name-written n l =
-        encode-decode-name old keys (latest_in b) (name_slot b n) (name-slot-length n l) (name-slot-bytes n) (name-slot-shaped n l) (number-placed b r.no_key_twice r.keyed_names n l)
+        encode-decode-name keys (latest_in b) (name_slot b n) (name-slot-length n l) (name-slot-bytes n) (name-slot-shaped n l) (number-placed b r.no_key_twice r.keyed_names n l)
 
     keys-written : joined encode_key keys ≡ part b 8 4608
     unfolding keys_in key_slot
@@ -140,7 +140,7 @@ module _ (old : Bool) (b : List ℕ) (r : Rules old b) where
     unfolding names_in name_slot
     names-written = joined-split (decode_name keys) 272 (encode_name keys) 128 b 4616 name-written ∙ part-last b 4616 34816 r.whole
 
-    pub bytes-written : encode (decode b) ≡ b
+    bytes-written : encode (decode b) ≡ b
     unfolding encode
     bytes-written =
         let w : length b ≡ 39432 = r.whole in
@@ -152,9 +152,6 @@ module _ (old : Bool) (b : List ℕ) (r : Rules old b) where
         ∙ sym (drop-cons b 4 0 (omega arith)))
         ∙ part_then b 0 4 4 refl
 
-pub table-sound : (b : List ℕ) → Rules false b → sound_table (decode b) ≡ true
-table-sound b r = table-sound-in false b r
-
 pub record SoundArea (b : List ℕ) : Type 0 where
   pub table : sound_table (decode b) ≡ true
   pub keys : keys_whole (decode b) ≡ true
@@ -162,8 +159,8 @@ pub record SoundArea (b : List ℕ) : Type 0 where
 
 pub sound-decode : (b : List ℕ) → Bytes b → sound b ≡ true → SoundArea b
 sound-decode b bytes h =
-    let r : Rules false b = rules-of b h in
-    record { table = table-sound b r; keys = table-keys false b r; bytes = bytes-written false b r bytes }
+    let r : Rules b = rules-of b h in
+    record { table = table-sound b r; keys = table-keys b r; bytes = bytes-written b r bytes }
 
 pub sound-fits : (b : List ℕ) → Bytes b → sound b ≡ true → Fits (decode b)
 sound-fits b bytes h = let a : SoundArea b = sound-decode b bytes h in sound-table-fits (decode b) a.table a.keys

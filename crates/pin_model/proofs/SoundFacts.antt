@@ -13,15 +13,14 @@ use Rattle.octets.proofs.Tests.{by_test, both_ways, and_left, and_right, and_bot
 use Rattle.octets.proofs.Equal.{same_true, same_refl}
 use Rattle.pin_model.specs.Slots.{used, apart}
 use Rattle.pin_model.specs.Table.{clock_limit, KeyRecord, NameRecord, Table, key_is, name_is, pinned_to, pin_is, key_recorded, records_of_a_name}
-use Rattle.pin_model.specs.SoundTable.{names_few, sound_name, sound_table_in, sound_table}
+use Rattle.pin_model.specs.SoundTable.{names_few, sound_name, sound_table}
 use Rattle.pin_model.specs.Fits.{holds}
 use Rattle.pin_model.proofs.Lists.{count, count_none, count-implied}
 use Rattle.pin_model.proofs.Places.{any_at}
 use Rattle.pin_model.proofs.Fields.{all_found, found_all}
 use Rattle.pin_model.proofs.Once.{apart-few, few-apart, apart-once, once-apart}
 
--- in the sense before document 02, Q-8, or in the one since
-pub record FactsIn (old : Bool) (t : Table) : Type 0 where
+pub record SoundFacts (t : Table) : Type 0 where
   pub latest_in_limit : t.latest ≤ clock_limit
   pub key_slots : length t.keys ≡ 64
   pub name_slots : length t.names ≡ 128
@@ -30,10 +29,7 @@ pub record FactsIn (old : Bool) (t : Table) : Type 0 where
   pub pin_once : (n k : List ℕ) → count (pin_is n k) (used t.names) ≤ 1
   -- every name record's key is recorded, and every key record has a name pinned to it
   pub recorded_while_pinned : (k : List ℕ) → key_recorded k t ≡ any (pinned_to k) (used t.names)
-  pub names_sound : all (sound_name old t.latest) (used t.names) ≡ true
-
-abbrev pub SoundFacts : Table → Type 0
-SoundFacts t = FactsIn false t
+  pub names_sound : all (sound_name t.latest) (used t.names) ≡ true
 
 abbrev pub key_of : KeyRecord → List ℕ
 key_of k = k.key
@@ -79,8 +75,8 @@ pins-apart l h = few-apart pin_labelled pin_label own-label only-label l (λ x. 
 pub names-pins : (l : List NameRecord) → ((n : List ℕ) → count (name_is n) l ≤ 1) → (n k : List ℕ) → count (pin_is n k) l ≤ 1
 names-pins l h n k = omega (arith, h n, count-implied (pin_is n k) (name_is n) (λ r. and_left (name_is n r) (pinned_to k r)) l)
 
-pub facts-in : (old : Bool) (t : Table) → sound_table_in old t ≡ true → FactsIn old t
-facts-in old t sound = record {
+pub sound-facts : (t : Table) → sound_table t ≡ true → SoundFacts t
+sound-facts t sound = record {
   latest_in_limit = leb-true t.latest clock_limit (search and_left);
   key_slots = eqb-true (length t.keys) 64 (search (and_left, and_right));
   name_slots = eqb-true (length t.names) 128 (search (and_left, and_right));
@@ -93,9 +89,6 @@ facts-in old t sound = record {
       (all_found pin_of (λ j. key_recorded j t) (used t.names) (search (and_left, and_right) depth 10) k);
   names_sound = search (and_left, and_right) depth 10;
 }
-
-pub sound-facts : (t : Table) → sound_table t ≡ true → SoundFacts t
-sound-facts t sound = facts-in false t sound
 
 pub facts-sound : (t : Table) → SoundFacts t → sound_table t ≡ true
 facts-sound t facts =
@@ -112,7 +105,7 @@ facts-sound t facts =
     facts.names_sound
 
 -- a name's key is recorded, and a recorded key has a name
-module _ {old : Bool} {t : Table} (facts : FactsIn old t) where
+module _ {t : Table} (facts : SoundFacts t) where
   -- 'no .. name twice' in edition one
   pub name-once : t.two ≡ false → (n : List ℕ) → count (name_is n) (used t.names) ≤ 1
   name-once e n = subst (λ (two : Bool). count (name_is n) (used t.names) ≤ records_of_a_name two) e (facts.name_few n)

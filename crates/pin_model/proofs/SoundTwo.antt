@@ -1,5 +1,5 @@
 -- The steps of edition two keep a table sound.
-use mathlib.Core.Path.{◌≡◌, refl, ◌∙◌, ap, subst}
+use mathlib.Core.Path.{◌≡◌, refl, ◌∙◌, ap}
 use mathlib.Core.Bool.{Bool, true, not, cond, ◌&&◌}
 use mathlib.Core.List.{List, [], ◌∷◌}
 use Prim.Native.Nat.{ℕ, ◌≤◌, ◌<◌}
@@ -8,68 +8,45 @@ use lib.Dec.{ltb}
 use borrow.Author.Tests.{ltb-true, not-true}
 use Rattle.octets.proofs.Tests.{by_test, and_left, and_right}
 use Rattle.host_name.specs.Name.{well_formed}
-use Rattle.tack_extension.specs.Tack.{public_key}
 use Rattle.pin_model.specs.Slots.{count, used, has_free, placed}
-use Rattle.pin_model.specs.Table.{clock_limit, NameRecord, Table, holding, settled_at, name_is, without_all}
+use Rattle.pin_model.specs.Table.{clock_limit, NameRecord, Table, holding, name_is, without_all}
 use Rattle.pin_model.specs.SoundTable.{sound_table}
 use Rattle.pin_model.specs.Connection.{ConnectionTwo, Shown, tacks_shown}
-use Rattle.pin_model.specs.Judge.{show_tack, extend, new_name, keyed_for}
-use Rattle.pin_model.specs.JudgeTwo.{show_each, shown_at, shown_two, contradicted, is_removed, has_own, wants_own, key_room, room_of, make_own, learn_own, learn_each, learn_two, judged_two}
+use Rattle.pin_model.specs.Judge.{raise, extend, new_name}
+use Rattle.pin_model.specs.JudgeTwo.{raise_each, raised_at, raised_two, contradicted, is_removed, has_own, wants_own, key_room, room_of, make_own, learn_own, learn_each, learn_two, judged_two}
 use Rattle.pin_model.proofs.Lists.{cond_either}
-use Rattle.pin_model.proofs.Slots.{alike-placed, length-placed, all_placed, all-freed}
+use Rattle.pin_model.proofs.Slots.{alike-placed, length-placed}
 use Rattle.pin_model.proofs.SoundFacts.{SoundFacts, sound-facts, facts-sound}
-use Rattle.pin_model.proofs.SoundSteps.{show-keeps, extend-keeps, settled-keeps}
-use Rattle.pin_model.proofs.Sights.{last_is, sighted, sighted_each, show-sets, each-stays, extend-stays, new-stays}
+use Rattle.pin_model.proofs.SoundSteps.{raise-keeps, extend-keeps, settled-keeps}
 use Rattle.pin_model.proofs.SoundRemoval.{removed-keeps}
 use Rattle.pin_model.proofs.Added.{added-keeps}
 
--- what is shown changes neither the edition nor latest
-pub shown-form : (name : List ℕ) (clock : ℕ) (tacks : List Shown) (t : Table)
-    → show_each name clock tacks t ≡ holding t (show_each name clock tacks t).keys (show_each name clock tacks t).names
-shown-form name clock [] t = refl
-shown-form name clock (s ∷ tacks) t = shown-form name clock tacks (show_tack name clock s.tack t)
+-- raising floors changes nothing but the keys
+pub raised-form : (tacks : List Shown) (t : Table) → raise_each tacks t ≡ holding t (raise_each tacks t).keys t.names
+raised-form [] t = refl
+raised-form (s ∷ tacks) t = raised-form tacks (raise s.tack t)
 
--- latest may be set before
-shown-settled : (name : List ℕ) (clock : ℕ) (tacks : List Shown) (t : Table)
-    → show_each name clock tacks (settled_at clock t) ≡ settled_at clock (show_each name clock tacks t)
-shown-settled name clock [] t = refl
-shown-settled name clock (s ∷ tacks) t = shown-settled name clock tacks (show_tack name clock s.tack t)
+raised_keeps : (tacks : List Shown) {t : Table} → SoundFacts t → SoundFacts (raise_each tacks t)
+raised_keeps [] facts = facts
+raised_keeps (s ∷ tacks) {t} facts = raised_keeps tacks {t = raise s.tack t} (raise-keeps s.tack facts)
 
-shown-keeps : (name : List ℕ) (clock : ℕ) (tacks : List Shown) {t : Table} → t.latest ≡ clock → SoundFacts t → SoundFacts (show_each name clock tacks t)
-shown-keeps name clock [] settled facts = facts
-shown-keeps name clock (s ∷ tacks) {t} settled facts =
-    shown-keeps name clock tacks {t = show_tack name clock s.tack t} settled (show-keeps name clock s.tack settled facts)
-
--- a sound table of edition two whose latest is the call's clock, as is the last of each record that these tacks show
-pub record Stage (name : List ℕ) (clock : ℕ) (tacks : List Shown) (t : Table) : Type 0 where
+-- a sound table of edition two whose latest is the call's clock
+pub record Stage (clock : ℕ) (t : Table) : Type 0 where
   pub facts : SoundFacts t
   pub settled : t.latest ≡ clock
   pub two : t.two ≡ true
-  pub seen : sighted_each name clock tacks t ≡ true
 
 module _ (name : List ℕ) (clock : ℕ) (formed : well_formed name ≡ true) where
-  module _ (s : Shown) (tacks : List Shown) {t : Table} (stage : Stage name clock (s ∷ tacks) t) where
-    abbrev tack : List ℕ
-    tack = s.tack
-
-    others : sighted_each name clock tacks t ≡ true
-    others = and_right (sighted name clock (public_key tack) t) (sighted_each name clock tacks t) stage.seen
-
-    extended-stage : Stage name clock tacks (extend true name clock tack t)
+  module _ (tack : List ℕ) {t : Table} (stage : Stage clock t) where
+    extended-stage : Stage clock (extend true name clock tack t)
     extended-stage =
         record {
-          facts =
-              extend-keeps true name clock tack stage.settled
-              (and_left (sighted name clock (public_key tack) t) (sighted_each name clock tacks t) stage.seen) stage.facts;
+          facts = extend-keeps true name clock tack stage.settled stage.facts;
           settled = stage.settled;
           two = stage.two;
-          seen = each-stays name clock t (extend true name clock tack t) (λ key. extend-stays name key clock tack t) tacks others;
         }
 
-    passed-stage : Stage name clock tacks t
-    passed-stage = record { facts = stage.facts; settled = stage.settled; two = stage.two; seen = others }
-
-    made-stage : Stage name clock tacks (make_own name clock tack t)
+    made-stage : Stage clock (make_own name clock tack t)
     made-stage =
         by_test (wants_own name tack t && room_of tack t)
         (λ e.
@@ -77,65 +54,54 @@ module _ (name : List ℕ) (clock : ℕ) (formed : well_formed name ≡ true) wh
         let room : room_of tack t ≡ true = and_right (wants_own name tack t) (room_of tack t) e in
         let few : count (name_is name) (used t.names) < 2 =
         ltb-true (count (name_is name) (used t.names)) 2 (and_right (not (has_own name tack t)) (ltb (count (name_is name) (used t.names)) 2) wants) in
-        let new = new_name name clock tack in
         rw e (record {
           facts =
-              added-keeps name clock tack stage.facts (placed new t.names)
-              (alike-placed new t.names (and_left (has_free t.names) (key_room tack t) room))
-              (length-placed new t.names ∙ stage.facts.name_slots)
+              added-keeps name clock tack stage.facts (placed (new_name name clock tack) t.names)
+              (alike-placed (new_name name clock tack) t.names (and_left (has_free t.names) (key_room tack t) room))
+              (length-placed (new_name name clock tack) t.names ∙ stage.facts.name_slots)
               (and_right (has_free t.names) (key_room tack t) room)
               (rw stage.two few)
               (not-true (has_own name tack t) (and_left (not (has_own name tack t)) (ltb (count (name_is name) (used t.names)) 2) wants))
               formed (omega (arith, stage.settled));
           settled = stage.settled;
           two = stage.two;
-          seen =
-              each-stays name clock t (holding t (keyed_for tack t.keys) (placed new t.names))
-              (λ key. all_placed (last_is name key clock) new (new-stays name key clock tack) t.names) tacks others;
         }))
-        (λ e. rw e passed-stage)
+        (λ e. rw e stage)
 
-    pub own-stage : Stage name clock tacks (learn_own name clock s t)
-    own-stage =
-        cond_either (Stage name clock tacks) s.enabled (cond (has_own name tack t) (extend true name clock tack t) (make_own name clock tack t)) t
-        (cond_either (Stage name clock tacks) (has_own name tack t) (extend true name clock tack t) (make_own name clock tack t) extended-stage made-stage)
-        passed-stage
+  pub own-stage : (s : Shown) {t : Table} → Stage clock t → Stage clock (learn_own name clock s t)
+  own-stage s {t} stage =
+      cond_either (Stage clock) s.enabled (cond (has_own name s.tack t) (extend true name clock s.tack t) (make_own name clock s.tack t)) t
+      (cond_either (Stage clock) (has_own name s.tack t) (extend true name clock s.tack t) (make_own name clock s.tack t)
+      (extended-stage s.tack stage) (made-stage s.tack stage))
+      stage
 
-  each-stage : (tacks : List Shown) {t : Table} → Stage name clock tacks t → Stage name clock [] (learn_each name clock tacks t)
+  pub each-stage : (tacks : List Shown) {t : Table} → Stage clock t → Stage clock (learn_each name clock tacks t)
   each-stage [] stage = stage
-  each-stage (s ∷ tacks) {t} stage = each-stage tacks {t = learn_own name clock s t} (own-stage s tacks stage)
+  each-stage (s ∷ tacks) {t} stage = each-stage tacks {t = learn_own name clock s t} (own-stage s stage)
 
-pub removed-stage : (name : List ℕ) (clock : ℕ) (tacks : List Shown) (out : NameRecord → Bool) {t : Table}
-    → Stage name clock tacks t → Stage name clock tacks (without_all out t)
-removed-stage name clock tacks out {t} stage = record {
-  facts = removed-keeps out stage.facts;
-  settled = stage.settled;
-  two = stage.two;
-  seen = each-stays name clock t (without_all out t) (λ key. all-freed (last_is name key clock) out t.names) tacks stage.seen;
-}
+  pub removed-stage : (out : NameRecord → Bool) {t : Table} → Stage clock t → Stage clock (without_all out t)
+  removed-stage out stage = record { facts = removed-keeps out stage.facts; settled = stage.settled; two = stage.two }
 
 module _ (name : List ℕ) (clock : ℕ) (tacks : List Shown) {t : Table} (facts : SoundFacts t) (two : t.two ≡ true) (in_order : t.latest ≤ clock) (in_limit : clock ≤ clock_limit) where
-  pub shown-stage : Stage name clock tacks (shown_at name clock tacks t)
-  shown-stage =
+  pub raised-stage : Stage clock (raised_at clock tacks t)
+  raised-stage =
+      let form = raised-form tacks t in
       record {
-        facts =
-            subst SoundFacts (shown-settled name clock tacks t)
-            (shown-keeps name clock tacks {t = settled_at clock t} refl (settled-keeps clock in_order in_limit facts));
+        facts = settled-keeps clock (rw (ap (λ (u : Table). u.latest) form) in_order) in_limit (raised_keeps tacks facts);
         settled = refl;
-        two = ap (λ (u : Table). u.two) (shown-form name clock tacks t) ∙ two;
-        seen = show-sets name clock tacks t;
+        two = ap (λ (u : Table). u.two) form ∙ two;
       }
 
-  learned-facts : well_formed name ≡ true → SoundFacts (learn_two name clock tacks (shown_at name clock tacks t))
-  learned-facts formed =
-      let u : Table = shown_at name clock tacks t in
-      cond_either SoundFacts (contradicted name clock tacks u) u (learn_each name clock tacks (without_all (is_removed name clock tacks) u))
-      shown-stage.facts
-      (each-stage name clock formed tacks (removed-stage name clock tacks (is_removed name clock tacks) shown-stage)).facts
+  learned-stage : well_formed name ≡ true → Stage clock (learn_two name clock tacks (raised_at clock tacks t))
+  learned-stage formed =
+      cond_either (Stage clock) (contradicted name clock tacks (raised_at clock tacks t)) (raised_at clock tacks t)
+      (learn_each name clock tacks (without_all (is_removed name clock tacks) (raised_at clock tacks t)))
+      raised-stage
+      (each-stage name clock formed tacks (removed-stage name clock formed (is_removed name clock tacks) raised-stage))
 
 pub judged_two-keeps : (c : ConnectionTwo) (t : Table) → sound_table t ≡ true → t.two ≡ true → well_formed c.name ≡ true → t.latest ≤ c.clock
     → c.clock ≤ clock_limit → sound_table (judged_two c t) ≡ true
 unfolding judged_two
 judged_two-keeps c t sound two formed in_order in_limit =
-    facts-sound (learn_two c.name c.clock (tacks_shown c) (shown_two c t))
-    (learned-facts c.name c.clock (tacks_shown c) (sound-facts t sound) two in_order in_limit formed)
+    facts-sound (learn_two c.name c.clock (tacks_shown c) (raised_two c t))
+    (learned-stage c.name c.clock (tacks_shown c) (sound-facts t sound) two in_order in_limit formed).facts

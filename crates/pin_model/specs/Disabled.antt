@@ -2,9 +2,8 @@
 -- them.
 use Rattle.std.specs.Prelude.{◌≡◌, Bool, true, false, not, ◌&&◌, ◌||◌, List, [], ℕ}
 use Rattle.host_name.specs.Folding.{folded_name}
-use Rattle.std.proofs.Math.Option.{Option}
-use Rattle.pin_model.specs.Slots.{freed, changed}
-use Rattle.pin_model.specs.Table.{NameRecord, set_last, name_recorded}
+use Rattle.pin_model.specs.Slots.{freed}
+use Rattle.pin_model.specs.Table.{name_recorded}
 use Rattle.pin_model.specs.Layout.{decode}
 use Rattle.pin_model.specs.declared.Checks.{Checks}
 use Rattle.pin_model.specs.Connection.{Connection, connection, checks_by, tack_shown, enabled, broken_keys, listed}
@@ -16,15 +15,11 @@ use Rattle.pin_model.specs.Demand1.{is_refusal}
 abbrev pub may_not_record : Connection → Bool
 may_not_record c = not (enabled c) && not c.checks.learn_disabled
 
--- name slots but for last, which a call sets 'activation or not' (document 02, Q-8): each last is taken as 0
-abbrev pub but_for_last : List (Option NameRecord) → List (Option NameRecord)
-but_for_last names = changed (λ r. true) (set_last 0) names
-
--- 'makes a record only if activation is 1': with a verdict each name slot is as it was but for its last, and those of keys that a break
--- signature names are free. So no record is made, none is replaced, none extended; "no room" is never said.
+-- 'makes a record only if activation is 1': with a verdict each name slot is as it was, but those of keys that a break signature names
+-- are free. So no record is made, none is replaced, none extended; "no room" is never said.
 pub record RecordsNothing (c : Connection) (b : List ℕ) : Type 0 where
   pub names : is_verdict (answered (judge c) b).number ≡ true
-      → but_for_last (decode (area_left (judge c) b)).names ≡ freed (λ r. listed (broken_keys c) r.key) (but_for_last (decode b).names)
+      → (decode (area_left (judge c) b)).names ≡ freed (λ r. listed (broken_keys c) r.key) (decode b).names
   pub room : (answered (judge c) b).no_room ≡ false
 
 -- 'the old way': with a verdict, a tack and no break signature the name has a record afterwards, or "no room" is said

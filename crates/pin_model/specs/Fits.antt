@@ -30,7 +30,7 @@ keys_whole t = all key_fits (used t.keys)
 abbrev pub name_fits : List (Option KeyRecord) → NameRecord → Bool
 name_fits keys r =
     leb (length r.name) 253
-    && (any (key_is r.key) (used keys) && (ltb r.initial four_bytes && (ltb (or_zero r.end) four_bytes && ltb r.last four_bytes)))
+    && (any (key_is r.key) (used keys) && (ltb r.initial four_bytes && ltb (or_zero r.end) four_bytes))
 
 pub record Fits (t : Table) : Type 0 where
   pub key_slots : length t.keys ≡ 64

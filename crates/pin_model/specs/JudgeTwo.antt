@@ -1,4 +1,4 @@
--- Judging one connection of edition two, by document 02, Q-3 and Q-8: the steps. What they take over from edition one is cited from Judge.antt.
+-- Judging one connection of edition two, by document 02, Q-3: the steps. What they take over from edition one is cited from Judge.antt.
 -- A step takes the name, the clock and the tacks of a call.
 use Rattle.std.specs.Prelude.{Bool, true, false, cond, not, ◌&&◌, ◌||◌, List, [], ◌∷◌, ℕ, ltb}
 use Rattle.octets.specs.Octets.{any}
@@ -6,15 +6,15 @@ use Rattle.tack_extension.specs.Tack.{public_key}
 use Rattle.pin_model.specs.Slots.{count, used, has_free, placed}
 use Rattle.pin_model.specs.Table.{NameRecord, Table, holding, settled_at, name_is, pin_is, active, key_recorded, records_of_a_name, without_all}
 use Rattle.pin_model.specs.Connection.{ConnectionTwo, Shown, tacks_shown, key_shown, key_enabled}
-use Rattle.pin_model.specs.Judge.{show_tack, extend, new_name, keyed_for, active_of}
+use Rattle.pin_model.specs.Judge.{raise, extend, new_name, keyed_for, active_of}
 
--- 'After the floors are raised and latest set'; with each tack that is shown, enabled or not, its record's last (Q-8)
-abbrev pub show_each : List ℕ → ℕ → List Shown → Table → Table
-show_each name clock [] t = t
-show_each name clock (s ∷ tacks) t = show_each name clock tacks (show_tack name clock s.tack t)
+-- 'After the floors are raised and latest set'
+abbrev pub raise_each : List Shown → Table → Table
+raise_each [] t = t
+raise_each (s ∷ tacks) t = raise_each tacks (raise s.tack t)
 
-abbrev pub shown_at : List ℕ → ℕ → List Shown → Table → Table
-shown_at name clock tacks t = settled_at clock (show_each name clock tacks t)
+abbrev pub raised_at : ℕ → List Shown → Table → Table
+raised_at clock tacks t = settled_at clock (raise_each tacks t)
 
 -- 'the verdict falls: contradicted if any active record has no matching tack, else confirmed if any is active, else unpinned'
 abbrev pub contradicted : List ℕ → ℕ → List Shown → Table → Bool
@@ -66,7 +66,7 @@ abbrev pub no_room_each : List ℕ → ℕ → List Shown → Table → Bool
 no_room_each name clock [] t = false
 no_room_each name clock (s ∷ tacks) t = no_room_own name s t || no_room_each name clock tacks (learn_own name clock s t)
 
--- 'Unless contradicted'; t is the table after `shown_at`
+-- 'Unless contradicted'; t has its floors raised and latest set
 abbrev pub learn_two : List ℕ → ℕ → List Shown → Table → Table
 learn_two name clock tacks t =
     cond (contradicted name clock tacks t) t (learn_each name clock tacks (without_all (is_removed name clock tacks) t))
@@ -76,14 +76,14 @@ no_room_in_two name clock tacks t =
     not (contradicted name clock tacks t) && no_room_each name clock tacks (without_all (is_removed name clock tacks) t)
 
 -- the call: its verdict, the table that it leaves, and "no room"
-abbrev pub shown_two : ConnectionTwo → Table → Table
-shown_two c t = shown_at c.name c.clock (tacks_shown c) t
+abbrev pub raised_two : ConnectionTwo → Table → Table
+raised_two c t = raised_at c.clock (tacks_shown c) t
 
 unfoldable pub verdict_two : ConnectionTwo → Table → ℕ
-verdict_two c t = verdict_by_two c.name c.clock (tacks_shown c) (shown_two c t)
+verdict_two c t = verdict_by_two c.name c.clock (tacks_shown c) (raised_two c t)
 
 unfoldable pub judged_two : ConnectionTwo → Table → Table
-judged_two c t = learn_two c.name c.clock (tacks_shown c) (shown_two c t)
+judged_two c t = learn_two c.name c.clock (tacks_shown c) (raised_two c t)
 
 unfoldable pub no_room_two : ConnectionTwo → Table → Bool
-no_room_two c t = no_room_in_two c.name c.clock (tacks_shown c) (shown_two c t)
+no_room_two c t = no_room_in_two c.name c.clock (tacks_shown c) (raised_two c t)

@@ -43,7 +43,7 @@ module _ {two : Bool} {names : List (Option NameRecord)} (d : Distinct two names
     once = λ m k. omega (arith, d.once m k, count_set (pin_is m k) names n none l);
   }
 
-  -- a record with other minutes
+  -- a record with another end
   pub distinct-same : (r s : NameRecord) → get_or names n none ≡ some r → s.name ≡ r.name → s.key ≡ r.key → Distinct two (set names n (some s))
   distinct-same r s e name key = record {
     few = λ m. omega (

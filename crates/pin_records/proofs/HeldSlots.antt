@@ -9,18 +9,18 @@ use lib.ListN.{length, get_or}
 use Rattle.octets.specs.Octets.{part, number, number_after}
 use Rattle.pin_model.specs.Slots.{used}
 use Rattle.pin_model.specs.Table.{KeyRecord, NameRecord, Table, key_is, pinned_to}
-use Rattle.pin_model.specs.Layout.{key_at, present, or_zero, encode_key, encode_name, decode, key_slot, name_slot, key_number, end_present, initial_in, end_in, last_in}
+use Rattle.pin_model.specs.Layout.{key_at, present, or_zero, encode_key, encode_name, decode, key_slot, name_slot, key_number, end_present, initial_in, end_in}
 use Rattle.pin_model.specs.Sound.{refers_to}
 use Rattle.pin_model.specs.Fits.{holds, floor_at, name_fits}
 use Rattle.pin_model.proofs.Lists.{count}
 use Rattle.pin_model.proofs.Places.{free_or}
 use Rattle.pin_model.proofs.KeyPlaces.{place_found, number-pinned}
 use Rattle.pin_model.proofs.Fits.{name-fits, name-fits-at}
-use Rattle.pin_model.proofs.NameBytes.{initial-field, end-field, last-field}
+use Rattle.pin_model.proofs.NameBytes.{initial-field, end-field}
 use Rattle.pin_model.proofs.Encoded.{encode-key-slot, encode-name-slot, decode-encode}
 use Rattle.pin_table.specs.declared.minutes.Minutes.{Minutes}
 use Rattle.pin_records.specs.Holds.{Holds, Stored}
-use Rattle.pin_records.specs.Find.{is_free, initial_at, end_at, last_at}
+use Rattle.pin_records.specs.Find.{is_free, initial_at, end_at}
 use Rattle.pin_records.specs.Read.{end_found, pinned_key}
 use Rattle.pin_records.specs.declared.read.PinEnd.TheVariants as pin-end
 use Rattle.pin_records.proofs.Placed.{Used, is-used}
@@ -36,11 +36,6 @@ module _ (keys : List (Option KeyRecord)) where
   unfolding encode_name part number number_after
   initial-of none o = refl
   initial-of (some r) o = initial-field keys r (name-fits keys r o).initial_fits
-
-  last_of : (x : Option NameRecord) → free_or (name_fits keys) x ≡ true → last_in (encode_name keys x) ≡ last_at x
-  unfolding encode_name part number number_after
-  last_of none o = refl
-  last_of (some r) o = last-field keys r (name-fits keys r o).last_fits
 
   absent-of : (x : Option NameRecord) → (end_present (encode_name keys x) ≡ 1 → ⊥) → pin-end.Absent ≡ end_found (end_at x)
   unfolding encode_name
@@ -102,9 +97,6 @@ module _ {b : List ℕ} {t : Table} (h : Holds b t) where
 
     pub held-initial : initial_in s ≡ initial_at (get_or t.names n none)
     held-initial = ap initial_in (name-slot n l e) ∙ initial-of t.keys (get_or t.names n none) fits
-
-    pub held-last : last_in s ≡ last_at (get_or t.names n none)
-    held-last = ap last_in (name-slot n l e) ∙ last_of t.keys (get_or t.names n none) fits
 
     pub held-absent : (end_present s ≡ 1 → ⊥) → pin-end.Absent ≡ end_found (end_at (get_or t.names n none))
     held-absent f = absent-of t.keys (get_or t.names n none) (λ d. f (ap end_present (name-slot n l e) ∙ d))

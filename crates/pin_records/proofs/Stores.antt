@@ -1,5 +1,5 @@
 -- The area after each store: it holds the table with that record.
-use mathlib.Core.Path.{◌≡◌, refl, sym, ◌∙◌, ap, subst}
+use mathlib.Core.Path.{◌≡◌, refl, sym, ◌∙◌, ap}
 use mathlib.Core.Bool.{true, false, true≢false, false≢true}
 use mathlib.Core.List.{List, [], ◌∷◌, ◌++◌}
 use mathlib.Core.Option.{Option, none, some}
@@ -13,7 +13,7 @@ use Rattle.octets.proofs.Parts.{put-in-part, set-inside, put-length}
 use Rattle.octets.proofs.Numbers.{big_endian-length}
 use Rattle.octets.proofs.Equal.{same_refl}
 use Rattle.pin_model.specs.Table.{KeyRecord, NameRecord, Table, key_is, key_recorded, settled_at, key_record, name_record}
-use Rattle.pin_model.specs.Layout.{place_of, key_at, or_zero, encode_key, encode_name, encode, name_slot}
+use Rattle.pin_model.specs.Layout.{place_of, key_at, encode_key, encode_name, encode, name_slot}
 use Rattle.pin_model.specs.Fits.{holds, four_bytes, name_fits, Fits}
 use Rattle.pin_model.proofs.Places.{free_or, any_at}
 use Rattle.pin_model.proofs.KeyPlaces.{place-once}
@@ -25,8 +25,7 @@ use Rattle.pin_model.proofs.Kept.{KeyWritten, NameWritten, fits-latest, floor-wr
 use Rattle.pin_model.proofs.FloorByte.{floor-set}
 use Rattle.pin_records.specs.Holds.{Distinct, Holds, with_key, with_name}
 use Rattle.pin_records.specs.Find.{is_free}
-use Rattle.pin_records.specs.Store.{with_floor, with_end, with_last, Fresh}
-use Rattle.pin_records.proofs.Placed.{Used, is-used}
+use Rattle.pin_records.specs.Store.{with_floor, with_end, Fresh}
 use Rattle.pin_records.proofs.DistinctNames.{distinct-same, distinct-added}
 
 new-end : (keys : List (Option KeyRecord)) (r : NameRecord) (end : ℕ)
@@ -34,19 +33,13 @@ new-end : (keys : List (Option KeyRecord)) (r : NameRecord) (end : ℕ)
 unfolding put encode_name big_endian
 new-end keys r end = refl
 
-new-last : (keys : List (Option KeyRecord)) (r : NameRecord) (last : ℕ)
-    → put (encode_name keys (some r)) 12 (big_endian 4 last) ≡ encode_name keys (with_last last (some r))
-unfolding put encode_name big_endian
-new-last keys r last = refl
-
 -- the pieces of a new name's slot
 abbrev pub new_name : ℕ → List ℕ → ℕ → List ℕ
 new_name k name clock =
-    (((((1 ∷ (k % 256 ∷ (length name % 256 ∷ (0 ∷ [])))) ++ big_endian 4 clock) ++ replicate 4 0) ++ big_endian 4 clock) ++ name)
-    ++ replicate (256 - length name) 0
+    ((((1 ∷ (k % 256 ∷ (length name % 256 ∷ (0 ∷ [])))) ++ big_endian 4 clock) ++ replicate 8 0) ++ name) ++ replicate (256 - length name) 0
 
 new-name : (keys : List (Option KeyRecord)) (k clock : ℕ) (name key : List ℕ) → k < 64 → length name ≤ 253 → place_of key keys ≡ k
-    → new_name k name clock ≡ encode_name keys (some (name_record name key clock none clock))
+    → new_name k name clock ≡ encode_name keys (some (name_record name key clock none))
 unfolding encode_name big_endian
 new-name keys k clock name key l short e =
     let number : k % 256 ≡ k = mod-eq_of_lt (omega arith) in
@@ -97,74 +90,45 @@ module _ {b : List ℕ} {t : Table} (h : Holds b t) where
       go none e u = key-put (new-key-written t h.fits k (key_record key floor) l e (eq-eqb (length key) 64 size) fresh) q
       go (some x) e u = absurd (false≢true u)
 
-  -- a used name slot, by what its record is
-  by-record : {d : List ℕ} (change : Option NameRecord → Option NameRecord) (n : ℕ) → is_free (get_or t.names n none) ≡ false
-      → ((r : NameRecord) → get_or t.names n none ≡ some r → Holds d (with_name t n (change (some r))))
-      → Holds d (with_name t n (change (get_or t.names n none)))
-  by-record {d} change n u f =
-      let y : Used (get_or t.names n none) = is-used (get_or t.names n none) u in
-      subst (λ (x : Option NameRecord). Holds d (with_name t n (change x))) (sym y.there) (f y.what y.there)
-
-  module _ (n : ℕ) (r : NameRecord) (l : n < 128) (e : get_or t.names n none ≡ some r) where
-    fits-there : name_fits t.keys r ≡ true
-    fits-there = ap (free_or (name_fits t.keys)) (sym e) ∙ name-fits-at t h.fits n
-
-    wide-there : length (encode_name t.keys (some r)) ≡ 272
-    wide-there = name-length t.keys (some r) fits-there
-
-    -- four bytes put into its slot
-    minutes-put : {d : List ℕ} (o v : ℕ) → o + 4 ≤ 272 → d ≡ put b (4616 + 272 * n + o) (big_endian 4 v)
-        → d ≡ put b (4616 + 272 * n) (put (encode_name t.keys (some r)) o (big_endian 4 v))
-    minutes-put o v inside q =
-        q ∙ put-in-part b (encode_name t.keys (some r)) (4616 + 272 * n) 272 o (big_endian 4 v) (name-there n r l e)
-        (omega (arith, h.long)) (omega (arith, big_endian-length 4 v))
-
-    -- its record with another end or another last
-    minutes-stored : {d : List ℕ} (end : Option ℕ) (last : ℕ) → or_zero end < four_bytes → last < four_bytes
-        → d ≡ put b (4616 + 272 * n) (encode_name t.keys (some (name_record r.name r.key r.initial end last)))
-        → Holds d (with_name t n (some (name_record r.name r.key r.initial end last)))
-    minutes-stored end last end_fits last_fits =
-        let x : NameRecord = name_record r.name r.key r.initial end last in
-        let f : NameFits t.keys r = name-fits t.keys r fits-there in
-        name-put
-        (name-written t h.fits n (some x) l
-        (fits-name t.keys x
-        (record { short = f.short; recorded = f.recorded; initial_fits = f.initial_fits; end_fits = end_fits; last_fits = last_fits })))
-        (distinct-same h.distinct n (rw h.fits.name_slots l) r x e refl refl)
-
   pub end-stored : {d : List ℕ} (n end : ℕ) → n < 128 → is_free (get_or t.names n none) ≡ false → end < four_bytes
       → d ≡ put b (4616 + 272 * n + 8) (big_endian 4 end)
       → Holds (set d (4616 + 272 * n + 3) 1) (with_name t n (with_end end (get_or t.names n none)))
-  end-stored n end l u small q = by-record (with_end end) n u (λ r e.
-      let at : ℕ = 4616 + 272 * n in
-      let s : List ℕ = put (encode_name t.keys (some r)) 8 (big_endian 4 end) in
-      let wide : length s ≡ 272 =
-      put-length (encode_name t.keys (some r)) 8 (big_endian 4 end) (omega (arith, big_endian-length 4 end, wide-there n r l e)) ∙ wide-there n r l e in
-      minutes-stored n r l e (some end) r.last small (name-fits t.keys r (fits-there n r l e)).last_fits
-      (ap (λ (a : List ℕ). set a (at + 3) 1) (minutes-put n r l e 8 end (omega arith) q)
-      ∙ set-inside b at s 3 1 (omega (arith, h.long)) (omega arith)
-      ∙ ap (put b at) (new-end t.keys r end)))
-
-  pub last_stored : {d : List ℕ} (n last : ℕ) → n < 128 → is_free (get_or t.names n none) ≡ false → last < four_bytes
-      → d ≡ put b (4616 + 272 * n + 12) (big_endian 4 last) → Holds d (with_name t n (with_last last (get_or t.names n none)))
-  last_stored n last l u small q = by-record (with_last last) n u (λ r e.
-      minutes-stored n r l e r.end last (name-fits t.keys r (fits-there n r l e)).end_fits small
-      (minutes-put n r l e 12 last (omega arith) q ∙ ap (put b (4616 + 272 * n)) (new-last t.keys r last)))
+  end-stored {d} n end l used-slot small q = go (get_or t.names n none) refl used-slot
+    where
+      go : (y : Option NameRecord) → get_or t.names n none ≡ y → is_free y ≡ false → Holds (set d (4616 + 272 * n + 3) 1) (with_name t n (with_end end y))
+      go none e u = absurd (true≢false u)
+      go (some r) e u =
+          let at : ℕ = 4616 + 272 * n in
+          let s : List ℕ = encode_name t.keys (some r) in
+          let vs : List ℕ = big_endian 4 end in
+          let x : NameRecord = name_record r.name r.key r.initial (some end) in
+          let o : name_fits t.keys r ≡ true = ap (free_or (name_fits t.keys)) (sym e) ∙ name-fits-at t h.fits n in
+          let f : NameFits t.keys r = name-fits t.keys r o in
+          let four : length vs ≡ 4 = big_endian-length 4 end in
+          let wide : length s ≡ 272 = name-length t.keys (some r) o in
+          let as_wide : length (put s 8 vs) ≡ length s = put-length s 8 vs (omega arith) in
+          name-put
+          (name-written t h.fits n (some x) l
+          (fits-name t.keys x (record { short = f.short; recorded = f.recorded; initial_fits = f.initial_fits; end_fits = small })))
+          (distinct-same h.distinct n (rw h.fits.name_slots l) r x e refl refl)
+          (ap (λ (a : List ℕ). set a (at + 3) 1) (q ∙ put-in-part b s at 272 8 vs (name-there n r l e) (omega (arith, h.long)) (omega arith))
+          ∙ set-inside b at (put s 8 vs) 3 1 (omega (arith, h.long)) (omega arith)
+          ∙ ap (put b at) (new-end t.keys r end))
 
   pub name-stored : {d : List ℕ} (n k clock : ℕ) (name : List ℕ) → n < 128 → k < 64 → is_free (get_or t.keys k none) ≡ false → length name ≤ 253
       → Fresh t.two name (key_at (get_or t.keys k none)) n t.names → clock < four_bytes → d ≡ put b (4616 + 272 * n) (new_name k name clock)
-      → Holds d (with_name t n (some (name_record name (key_at (get_or t.keys k none)) clock none clock)))
+      → Holds d (with_name t n (some (name_record name (key_at (get_or t.keys k none)) clock none)))
   name-stored {d} n k clock name l m used-slot short fresh small q = go (get_or t.keys k none) refl used-slot fresh
     where
       go : (y : Option KeyRecord) → get_or t.keys k none ≡ y → is_free y ≡ false → Fresh t.two name (key_at y) n t.names
-          → Holds d (with_name t n (some (name_record name (key_at y) clock none clock)))
+          → Holds d (with_name t n (some (name_record name (key_at y) clock none)))
       go none e u f = absurd (true≢false u)
       go (some x) e u f =
-          let r : NameRecord = name_record name x.key clock none clock in
+          let r : NameRecord = name_record name x.key clock none in
           let its : holds (key_is x.key) (get_or t.keys k none) ≡ true = ap (holds (key_is x.key)) e ∙ same_refl x.key in
           let place : place_of x.key t.keys ≡ k = place-once x.key t.keys k its (h.fits.key_once x.key) in
           name-put
           (name-written t h.fits n (some r) l
-          (fits-name t.keys r (record { short = short; recorded = any_at (key_is x.key) t.keys k its; initial_fits = small; end_fits = omega arith; last_fits = small })))
+          (fits-name t.keys r (record { short = short; recorded = any_at (key_is x.key) t.keys k its; initial_fits = small; end_fits = omega arith })))
           (distinct-added h.distinct n (rw h.fits.name_slots l) r f)
           (q ∙ ap (put b (4616 + 272 * n)) (new-name t.keys k clock name x.key m short place))

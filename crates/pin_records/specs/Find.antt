@@ -38,7 +38,3 @@ initial_at (some r) = r.initial
 abbrev pub end_at : Option NameRecord → Option ℕ
 end_at none = none
 end_at (some r) = r.end
-
-abbrev pub last_at : Option NameRecord → ℕ
-last_at none = 0
-last_at (some r) = r.last

@@ -6,7 +6,7 @@ ghost use Rattle.pin_model.specs.Layout.{decode, key_at};
 ghost use Rattle.pin_model.specs.Fits.{floor_at};
 ghost use Rattle.pin_model.specs.Fits.{holds};
 ghost use Rattle.pin_records.specs.Holds.{Stored};
-ghost use Rattle.pin_records.specs.Find.{is_free, initial_at, end_at, last_at};
+ghost use Rattle.pin_records.specs.Find.{is_free, initial_at, end_at};
 ghost use Rattle.pin_records.specs.Read.{end_found, pinned_key};
 
 use crate::find;
@@ -51,13 +51,6 @@ pub fn end(area: &[u8], n: NameSlot) -> PinEnd
         return PinEnd::Absent;
     }
     PinEnd::At(slots::end(s))
-}
-
-pub fn last(area: &[u8], n: NameSlot) -> Minutes
-    requires { Stored area.now × (n.0 < 128) }
-    ensures { result.0 ≡ last_at (get_or (decode area.now).names n.0 none) }
-{
-    slots::last(slots::name_slot(area, n))
 }
 
 // The slot of the key that a used name slot is pinned to.

@@ -5,11 +5,11 @@ ghost use Rattle.pin_model.specs.Table.{key_recorded, settled_at, key_record, na
 ghost use Rattle.pin_model.specs.Layout.{decode, key_at};
 ghost use Rattle.pin_records.specs.Holds.{Holds, Stored, with_key, with_name};
 ghost use Rattle.pin_records.specs.Find.{is_free};
-ghost use Rattle.pin_records.specs.Store.{with_end, with_floor, with_last, Fresh};
+ghost use Rattle.pin_records.specs.Store.{with_end, with_floor, Fresh};
 
 use pin_table::minutes::Minutes;
 use pin_table::slots::{
-    END_AT, END_PRESENT_AT, FLOOR_AT, KEY_SLOT_LENGTH, KEY_SLOTS_AT, KeySlot, LAST_AT, LATEST_AT,
+    END_AT, END_PRESENT_AT, FLOOR_AT, KEY_SLOT_LENGTH, KEY_SLOTS_AT, KeySlot, LATEST_AT,
     NAME_SLOT_LENGTH, NAME_SLOTS_AT, NameSlot,
 };
 
@@ -53,20 +53,10 @@ pub fn store_end(area: &mut [u8], n: NameSlot, end: Minutes)
     area[at + END_PRESENT_AT] = 1;
 }
 
-// The last sight of a name's key.
-pub fn store_last(area: &mut [u8], n: NameSlot, last: Minutes)
-    requires { Stored area.old × (n.0 < 128) × (is_free (get_or (decode area.old).names n.0 none) ≡ false) }
-    ensures { Holds area.new (with_name (decode area.old) n.0 (with_last last.0 (get_or (decode area.old).names n.0 none))) }
-{
-    let i = n.0;
-    let at = NAME_SLOTS_AT + NAME_SLOT_LENGTH * i;
-    octets::put_u32(area, at + LAST_AT, last.count());
-}
-
 // A new record of a name, pinned to the key of a used key slot.
 pub fn store_name(area: &mut [u8], n: NameSlot, k: KeySlot, name: &[u8], clock: Minutes)
     requires { Stored area.old × (n.0 < 128) × (k.0 < 64) × (is_free (get_or (decode area.old).keys k.0 none) ≡ false) × (length name.now ≤ 253) × Fresh (decode area.old).two name.now (key_at (get_or (decode area.old).keys k.0 none)) n.0 (decode area.old).names }
-    ensures { Holds area.new (with_name (decode area.old) n.0 (some (name_record name.now (key_at (get_or (decode area.old).keys k.0 none)) clock.0 none clock.0))) }
+    ensures { Holds area.new (with_name (decode area.old) n.0 (some (name_record name.now (key_at (get_or (decode area.old).keys k.0 none)) clock.0 none))) }
 {
     let i = n.0;
     let number = k.0;
@@ -74,10 +64,8 @@ pub fn store_name(area: &mut [u8], n: NameSlot, k: KeySlot, name: &[u8], clock: 
     let key_number = (number % 256) as u8;
     let name_length = (name.len() % 256) as u8;
     let at_initial = octets::put_part(area, at, &[1, key_number, name_length, 0]);
-    let minutes = clock.count();
-    let at_end = octets::put_u32(area, at_initial, minutes);
-    let at_last = octets::put_zeros(area, at_end, 4);
-    let at_name = octets::put_u32(area, at_last, minutes);
+    let at_end = octets::put_u32(area, at_initial, clock.count());
+    let at_name = octets::put_zeros(area, at_end, 8);
     let at_padding = octets::put_part(area, at_name, name);
     octets::put_zeros(area, at_padding, 256 - name.len());
 }

@@ -1,9 +1,9 @@
-// Whether an area is a sound pin table. `old` is the yes for the sense that soundness had while slots had no last.
+// Whether an area is a sound pin table.
 ghost use Rattle.std.specs.Prelude.{◌≡◌, true, ◌&&◌, ◌≤◌, length};
 ghost use Rattle.octets.specs.Octets.{all_zero};
 ghost use Rattle.pin_model.specs.Table.{clock_limit};
 ghost use Rattle.pin_model.specs.Layout.{area_length, latest_in};
-ghost use Rattle.pin_model.specs.Sound.{head_sound, names_shaped, names_distinct, names_keyed, keys_named, sound_in, sound, old_sound};
+ghost use Rattle.pin_model.specs.Sound.{head_sound, names_shaped, names_distinct, names_keyed, keys_named, sound};
 
 use crate::{key_rules, links, name_rules};
 use pin_distinct::distinct;
@@ -26,11 +26,11 @@ fn head_sound(area: &[u8]) -> bool
 }
 
 // All that is asked of the names, and the keys' names.
-fn names_sound(area: &[u8], old: bool) -> bool
+fn names_sound(area: &[u8]) -> bool
     requires { (length area.now ≡ area_length) × (latest_in area.now ≤ clock_limit) }
-    ensures { result ≡ (names_shaped old area.now && (names_distinct area.now && (names_keyed area.now && keys_named area.now))) }
+    ensures { result ≡ (names_shaped area.now && (names_distinct area.now && (names_keyed area.now && keys_named area.now))) }
 {
-    if !name_rules::names_shaped(area, old) {
+    if !name_rules::names_shaped(area) {
         return false;
     }
     if !distinct::names_distinct(area) {
@@ -43,8 +43,8 @@ fn names_sound(area: &[u8], old: bool) -> bool
 }
 
 // Rule by rule.
-fn rules_hold(area: &[u8], old: bool) -> bool
-    ensures { result ≡ sound_in old area.now }
+fn rules_hold(area: &[u8]) -> bool
+    ensures { result ≡ sound area.now }
 {
     if area.len() != AREA_LENGTH {
         return false;
@@ -58,7 +58,7 @@ fn rules_hold(area: &[u8], old: bool) -> bool
     if !distinct::keys_distinct(area) {
         return false;
     }
-    names_sound(area, old)
+    names_sound(area)
 }
 
 // Whether the area is all zero, as starting edition one leaves it. A table that has judged has a latest clock, and one of edition
@@ -82,12 +82,5 @@ pub fn is_sound(area: &[u8]) -> bool
     if is_empty(area) {
         return true;
     }
-    rules_hold(area, false)
-}
-
-// In the old sense, in which the converter takes a table.
-pub fn is_sound_old(area: &[u8]) -> bool
-    ensures { result ≡ old_sound area.now }
-{
-    rules_hold(area, true)
+    rules_hold(area)
 }

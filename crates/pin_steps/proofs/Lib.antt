@@ -2,7 +2,6 @@ pub mod Tacks
 pub mod Floors
 pub mod ActivePins
 pub mod PinnedTests
-pub mod OwnPin
 pub mod LongerPins
 pub mod DroppedNames
 pub mod BrokenKeys

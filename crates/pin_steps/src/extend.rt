@@ -1,19 +1,19 @@
-// Step 2(i), and the same in edition two: the pin of the name and the tack's key gets a later end. In edition one last is set with it.
+// Step 2(i), and the same in edition two: the pin of the name and the tack's key lasts longer.
 ghost use Rattle.std.specs.Prelude.{◌≡◌, true, false, ◌≤◌, ◌<◌, length, get_or};
 ghost use Rattle.std.proofs.Math.Option.{none};
 ghost use Rattle.pin_model.specs.Table.{clock_limit, settled_at};
 ghost use Rattle.pin_model.specs.Layout.{decode};
 ghost use Rattle.pin_model.specs.SoundTable.{sound_table};
-ghost use Rattle.pin_model.specs.Judge.{sight, extend};
+ghost use Rattle.pin_model.specs.Judge.{extend};
 ghost use Rattle.pin_records.specs.Holds.{Holds, Stored, with_name};
 ghost use Rattle.pin_records.specs.Find.{is_free, initial_at};
 ghost use Rattle.pin_steps.specs.Steps.{extended_at};
 
-use crate::sight;
 use pin_records::find::FoundName;
-use pin_records::{read, store};
+use pin_records::{find, read, store};
 use pin_table::minutes::Minutes;
 use pin_table::slots::NameSlot;
+use tack_extension::fields;
 
 // The pin of a used slot. Its initial is not after the clock, so the difference below cannot wrap.
 pub fn extend_at(area: &mut [u8], n: NameSlot, clock: Minutes)
@@ -24,16 +24,15 @@ pub fn extend_at(area: &mut [u8], n: NameSlot, clock: Minutes)
     store::store_end(area, n, end);
 }
 
-// Last, and where activation is enabled the end. The table is sound with the clock in latest's place, so no record's initial is after the
-// clock.
-pub fn update_pin(area: &mut [u8], name: &[u8], tack: &[u8], clock: Minutes, enabled: bool)
-    requires { Stored area.old × (length tack.now ≡ 166) × (sound_table (settled_at clock.0 (decode area.old)) ≡ true) }
-    ensures { Holds area.new (extend enabled name.now clock.0 tack.now (sight name.now clock.0 tack.now (decode area.old))) }
+// Where activation is enabled. The table is sound with the clock in latest's place, so no record's initial is after the clock.
+pub fn extend_pin(area: &mut [u8], name: &[u8], tack: &[u8], clock: Minutes)
+    requires { Stored area.old × (length tack.now ≡ 166) × (sound_table (settled_at clock.0 (decode area.old)) ≡ true) × ((decode area.old).two ≡ false) }
+    ensures { Holds area.new (extend true name.now clock.0 tack.now (decode area.old)) }
 {
-    let FoundName::At(n) = sight::sight_pin(area, name, tack, clock) else {
+    let FoundName::At(n) = find::find_name(area, name) else {
         return;
     };
-    if !enabled {
+    if !find::holds_key(area, read::key_of(area, n), fields::public_key(tack)) {
         return;
     }
     extend_at(area, n, clock);

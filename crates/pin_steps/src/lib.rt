@@ -2,5 +2,4 @@
 pub mod breaks;
 pub mod extend;
 pub mod raise;
-pub mod sight;
 pub mod verdict;

@@ -5,57 +5,109 @@ use mathlib.Core.List.{List, [], ◌∷◌, ◌++◌}
 use mathlib.Core.Option.{Option, none, some}
 use Prim.Native.Nat.{ℕ, ◌≤◌, ◌<◌}
 use native.Mathlib.Omega.{arith}
-use lib.Dec.{leb, ltb}
+use lib.Dec.{ltb}
 use lib.ListN.{length, get_or, set}
 use lib.Seq.{set-get_or}
-use borrow.Author.Tests.{leb-true, le-leb, lt-ltb, le-ltb}
+use borrow.Author.Tests.{lt-ltb, le-ltb}
 use Rattle.octets.specs.Octets.{any}
+use Rattle.host_name.specs.Name.{well_formed}
 use Rattle.tack_extension.specs.Tack.{public_key}
 use Rattle.tack_extension_two.specs.ExtensionTwo.{parts_two, enables_first, enables_second}
 use Rattle.pin_model.specs.Slots.{count, used, has_free, placed}
-use Rattle.pin_model.specs.Table.{NameRecord, Table, holding, name_is, pin_is, records_of_a_name}
+use Rattle.pin_model.specs.Table.{clock_limit, NameRecord, Table, holding, name_is, pin_is, records_of_a_name}
 use Rattle.pin_model.specs.Layout.{decode}
-use Rattle.pin_model.specs.SoundTable.{sound_name}
+use Rattle.pin_model.specs.Fits.{holds}
 use Rattle.pin_model.specs.Connection.{Shown, shown_in, tacks_in}
 use Rattle.pin_model.specs.Judge.{extended_to, extend, new_name, keyed_for}
 use Rattle.pin_model.specs.JudgeTwo.{has_own, wants_own, key_room, room_of, make_own, learn_own, learn_each, no_room_own, no_room_each}
-use Rattle.pin_model.proofs.Lists.{cond_either, all-implied}
-use Rattle.pin_model.proofs.Slots.{all_changed, all_placed}
-use Rattle.pin_model.proofs.Places.{all-used-at}
-use Rattle.pin_model.proofs.SoundName.{Minutes, minutes-of}
-use Rattle.pin_model.proofs.SoundTwo.{Stage}
+use Rattle.pin_model.proofs.Places.{any_at, any_none}
+use Rattle.pin_model.proofs.Initials.{record-initial}
+use Rattle.pin_model.proofs.SoundFacts.{sound-facts, facts-sound}
+use Rattle.pin_model.proofs.SoundTwo.{Stage, each-stage}
+use Rattle.pin_model.proofs.OneSlot.{changed-set}
+use Rattle.pin_table.specs.declared.slots.NameSlot.{NameSlot}
 use Rattle.pin_records.specs.Holds.{Holds, with_name}
-use Rattle.pin_records.specs.Find.{initial_at}
+use Rattle.pin_records.specs.Find.{is_free, first_slot, name_found, initial_at}
 use Rattle.pin_records.specs.Store.{Fresh}
+use Rattle.pin_records.specs.declared.find.FoundName.TheVariants as name-found
+use Rattle.pin_records.proofs.Placed.{Used, is-used, holds-used, first_passes, first_absent}
 use Rattle.pin_records.proofs.HeldSlots.{holds-decode}
-use Rattle.pin_records.proofs.Found.{FreeAt}
+use Rattle.pin_records.proofs.Found.{FreeAt, name-there, name-not-there}
 use Rattle.pin_refusals_two.specs.Parts.{tacks_by}
-use Rattle.pin_steps.specs.Steps.{with_keys}
+use Rattle.pin_steps.specs.Steps.{extended_at, with_keys}
 use Rattle.pin_steps.proofs.Tacks.{with-names}
-use Rattle.pin_steps.proofs.OwnPin.{PinAt}
-use Rattle.pin_steps_two.specs.BegunTwo.{BegunTwo}
+use Rattle.pin_steps_two.specs.SettledTwo.{SettledTwo}
 
--- where nothing refuses
-pub from-stage : {name : List ℕ} {clock : ℕ} {tacks : List Shown} {t : Table} → Stage name clock tacks t → BegunTwo clock t
-from-stage {clock = clock} {t = t} stage =
-    record {
-      in_limit = omega (arith, stage.settled, stage.facts.latest_in_limit);
-      begun =
-          all-implied (sound_name false t.latest) (λ r. leb r.initial clock)
-          (λ r e. let m : Minutes t.latest r = minutes-of t.latest r e in le-leb r.initial clock (omega (arith, stage.settled, m.begun, m.seen)))
-          (used t.names) stage.facts.names_sound;
-      two = stage.two;
-    }
+-- slot n is the record of the name and the key
+pub record PinAt (name key : List ℕ) (names : List (Option NameRecord)) (n : ℕ) : Type 0 where
+  pub below : n < 128
+  pub what : NameRecord
+  pub there : get_or names n none ≡ some what
+  pub its : pin_is name key what ≡ true
+  pub in_use : is_free (get_or names n none) ≡ false
+  pub recorded : any (pin_is name key) (used names) ≡ true
+
+module _ (name : List ℕ) {key key' : List ℕ} (same_key : key ≡ key') (names : List (Option NameRecord)) (slots : length names ≡ 128) where
+  abbrev found : ℕ
+  found = first_slot (holds (pin_is name key)) names
+
+  pub pin_at : (n : NameSlot) → name-found.At n ≡ name_found found → PinAt name key' names n.0
+  pin_at n e = subst (λ (k : List ℕ). PinAt name k names n.0) same_key at
+    where
+      place : (found < 128) × (found ≡ n.0)
+      place = name-there found n e
+
+      here : holds (pin_is name key) (get_or names n.0 none) ≡ true
+      here = ap (λ (i : ℕ). holds (pin_is name key) (get_or names i none)) (sym place.1) ∙ first_passes (holds (pin_is name key)) names (omega (arith, place.0))
+
+      used-slot : is_free (get_or names n.0 none) ≡ false
+      used-slot = holds-used (pin_is name key) (get_or names n.0 none) here
+
+      at : PinAt name key names n.0
+      at =
+          let u : Used (get_or names n.0 none) = is-used (get_or names n.0 none) used-slot in
+          record {
+            below = omega (arith, place.0, place.1);
+            what = u.what;
+            there = u.there;
+            its = sym (ap (holds (pin_is name key)) u.there) ∙ here;
+            in_use = used-slot;
+            recorded = any_at (pin_is name key) names n.0 here;
+          }
+
+  pub pin-absent : name-found.Nothing ≡ name_found found → any (pin_is name key') (used names) ≡ false
+  pin-absent e =
+      ap (λ (k : List ℕ). any (pin_is name k) (used names)) (sym same_key)
+      ∙ any_none (pin_is name key) names (first_absent (holds (pin_is name key)) names (omega (arith, name-not-there found e)))
+
+-- such a table by its facts, and the clock of a call, which latest is
+pub to-stage : {clock : ℕ} {t : Table} → SettledTwo clock t → Stage clock t
+to-stage {t} known = record { facts = sound-facts t known.table_sound; settled = known.settled; two = known.two }
+
+pub from-stage : {clock : ℕ} {t : Table} → Stage clock t → SettledTwo clock t
+from-stage {t} stage = record { table_sound = facts-sound t stage.facts; settled = stage.settled; two = stage.two }
+
+pub clock-limit : {clock : ℕ} {t : Table} → SettledTwo clock t → clock ≤ clock_limit
+clock-limit {t} known = omega (arith, known.settled, (sound-facts t known.table_sound).latest_in_limit)
 
 module _ (name : List ℕ) (clock : ℕ) (tack : List ℕ) {b : List ℕ} {t : Table} (h : Holds b t) where
   -- it is extended
-  pub own-begun : {n : ℕ} → PinAt name (public_key tack) t.names n → BegunTwo clock t → initial_at (get_or t.names n none) ≤ clock
-  own-begun {n} x known =
-      omega (
-        arith,
-        ap initial_at x.there,
-        leb-true x.what.initial clock (all-used-at (λ r. leb r.initial clock) t.names n x.what known.begun x.there),
-      )
+  module _ {n : ℕ} (x : PinAt name (public_key tack) t.names n) where
+    pub own-begun : SettledTwo clock t → initial_at (get_or t.names n none) ≤ clock
+    own-begun known =
+        omega (
+          arith,
+          ap initial_at x.there,
+          record-initial t clock known.table_sound (omega (arith, known.settled)) n x.what x.there,
+        )
+
+    pub own-extended : {d : List ℕ} → Holds d (with_name t n (extended_at clock (get_or t.names n none)))
+        → Holds d (extend true name clock tack t)
+    own-extended g =
+        with-names
+        (ap (λ (o : Option NameRecord). set t.names n (extended_at clock o)) x.there
+        ∙ sym (changed-set (pin_is name (public_key tack)) (extended_to clock) t.names n x.what x.there x.its
+        (h.distinct.once name (public_key tack)))) g
 
   -- it is made, or there is no room
   by_tests : {d : List ℕ} (wants room : Bool) → wants_own name tack t ≡ wants → room_of tack t ≡ room
@@ -160,35 +212,10 @@ module _ (name : List ℕ) (clock : ℕ) where
       either false y z = refl
 
 -- the first part, then the second
-own-begun-after : (name : List ℕ) (clock : ℕ) (s : Shown) (t : Table) → BegunTwo clock t → BegunTwo clock (learn_own name clock s t)
-own-begun-after name clock s t known =
-    let extended = extend true name clock s.tack t in
-    let made = make_own name clock s.tack t in
-    let new = new_name name clock s.tack in
-    cond_either (BegunTwo clock) s.enabled (cond (has_own name s.tack t) extended made) t
-    (cond_either (BegunTwo clock) (has_own name s.tack t) extended made
-    (record {
-      in_limit = known.in_limit;
-      begun = all_changed (λ r. leb r.initial clock) (pin_is name (public_key s.tack)) (extended_to clock) (λ r e. e) t.names known.begun;
-      two = known.two;
-    })
-    (cond_either (BegunTwo clock) (wants_own name s.tack t && room_of s.tack t)
-    (holding t (keyed_for s.tack t.keys) (placed new t.names)) t
-    (record {
-      in_limit = known.in_limit;
-      begun = all_placed (λ r. leb r.initial clock) new (le-leb clock clock (omega arith)) t.names known.begun;
-      two = known.two;
-    })
-    known))
-    known
-
-pub learned-begun : (name : List ℕ) {clock : ℕ} {t : Table} {d : List ℕ} (on : Bool) (tack : List ℕ)
-    → Holds d (learn_each name clock (shown_in on tack) t) → BegunTwo clock t → BegunTwo clock (decode d)
-learned-begun name {clock} {t} on tack h known = subst (BegunTwo clock) (sym (holds-decode h)) (go tack)
-  where
-    go : (tack : List ℕ) → BegunTwo clock (learn_each name clock (shown_in on tack) t)
-    go [] = known
-    go (b ∷ bs) = own-begun-after name clock (record { enabled = on; tack = b ∷ bs }) t known
+pub learned-settled : (name : List ℕ) {clock : ℕ} {t : Table} {d : List ℕ} (on : Bool) (tack : List ℕ)
+    → Holds d (learn_each name clock (shown_in on tack) t) → well_formed name ≡ true → SettledTwo clock t → SettledTwo clock (decode d)
+learned-settled name {clock} on tack h formed known =
+    subst (SettledTwo clock) (sym (holds-decode h)) (from-stage (each-stage name clock formed (shown_in on tack) (to-stage known)))
 
 pub learned-both : (name : List ℕ) (clock : ℕ) (t : Table) {a d : List ℕ} (first second : List ℕ) (flags : ℕ) {x y : Bool}
     → x ≡ no_room_each name clock (shown_in (enables_first (parts_two first second flags)) first) t

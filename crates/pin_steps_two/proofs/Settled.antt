@@ -3,22 +3,23 @@ use mathlib.Core.Path.{◌≡◌, refl, sym, ◌∙◌, ap, ap₂, subst}
 use mathlib.Core.Bool.{Bool, true, false, cond, not, ◌&&◌}
 use mathlib.Core.List.{List}
 use Prim.Native.Nat.{ℕ}
-use lib.Dec.{leb}
 use Rattle.octets.specs.Octets.{any}
+use Rattle.host_name.specs.Name.{well_formed}
 use Rattle.pin_model.specs.Slots.{used, freed}
 use Rattle.pin_model.specs.Table.{NameRecord, Table, holding, without_all}
 use Rattle.pin_model.specs.Layout.{encode, decode}
 use Rattle.pin_model.specs.Connection.{Shown}
 use Rattle.pin_model.specs.Judge.{active_of}
-use Rattle.pin_model.specs.JudgeTwo.{shown_at, contradicted, verdict_by_two, is_removed, learn_each, no_room_each, learn_two, no_room_in_two}
+use Rattle.pin_model.specs.JudgeTwo.{raised_at, contradicted, verdict_by_two, is_removed, learn_each, no_room_each, learn_two, no_room_in_two}
 use Rattle.pin_model.specs.Calls as calls
-use Rattle.pin_model.proofs.Slots.{all-freed}
+use Rattle.pin_model.proofs.SoundTwo.{removed-stage}
 use Rattle.pin_records.specs.Holds.{Holds, without_unnamed}
 use Rattle.pin_records.proofs.HeldSlots.{holds-decode}
 use Rattle.pin_refusals_two.specs.Parts.{tacks_by, both_tacks}
-use Rattle.pin_steps_two.specs.BegunTwo.{BegunTwo}
+use Rattle.pin_steps_two.specs.SettledTwo.{SettledTwo}
 use Rattle.pin_steps_two.specs.StepsTwo.{steps_two, steps_answer_two}
-use Rattle.pin_steps_two.proofs.ShownTacks.{shown_at-same}
+use Rattle.pin_steps_two.proofs.ShownTacks.{raised_at-same}
+use Rattle.pin_steps_two.proofs.OwnPins.{to-stage, from-stage}
 
 module _ (name : List ℕ) (clock : ℕ) (tacks : List Shown) (t : Table) (d : List ℕ) where
   abbrev left : Table
@@ -51,32 +52,29 @@ pub keys-dropped : (gone : NameRecord → Bool) (t : Table) {a d : List ℕ} →
     → Holds d (without_unnamed (decode a)) → Holds d (without_all gone t)
 keys-dropped gone t {a} {d} g h = subst (λ (u : Table). Holds d (without_unnamed u)) (holds-decode g) h
 
-pub dropped-begun : {clock : ℕ} (gone : NameRecord → Bool) {t : Table} {d : List ℕ} → Holds d (without_all gone t) → BegunTwo clock t → BegunTwo clock (decode d)
-dropped-begun {clock} gone {t} h known =
-    subst (BegunTwo clock) (sym (holds-decode h)) (record {
-      in_limit = known.in_limit;
-      begun = all-freed (λ r. leb r.initial clock) gone t.names known.begun;
-      two = known.two;
-    })
+pub dropped-settled : (name : List ℕ) {clock : ℕ} → well_formed name ≡ true → (gone : NameRecord → Bool) {t : Table} {d : List ℕ}
+    → Holds d (without_all gone t) → SettledTwo clock t → SettledTwo clock (decode d)
+dropped-settled name {clock} formed gone h known =
+    subst (SettledTwo clock) (sym (holds-decode h)) (from-stage (removed-stage name clock formed gone (to-stage known)))
 
 pub learned-from : (name : List ℕ) (clock : ℕ) (tacks : List Shown) {a d : List ℕ} {t : Table} → Holds a t → Holds d (learn_each name clock tacks (decode a))
     → Holds d (learn_each name clock tacks t)
 learned-from name clock tacks {a} {d} g h = subst (λ (u : Table). Holds d (learn_each name clock tacks u)) (holds-decode g) h
 
--- the table with what is shown, whatever the flags
-module _ (name first second : List ℕ) (flags clock : ℕ) (t : Table) {a : List ℕ} where
-  shown-table : Holds a (shown_at name clock (both_tacks first second) t) → decode a ≡ shown_at name clock (tacks_by first second flags) t
-  shown-table h = holds-decode h ∙ shown_at-same first second flags name clock t
+-- the table with its floors raised, whatever the flags
+module _ (first second : List ℕ) (flags clock : ℕ) (t : Table) {a : List ℕ} where
+  raised-table : Holds a (raised_at clock (both_tacks first second) t) → decode a ≡ raised_at clock (tacks_by first second flags) t
+  raised-table h = holds-decode h ∙ raised_at-same first second flags clock t
 
-  pub shown-as : (P : Table → Type 0) → Holds a (shown_at name clock (both_tacks first second) t) → P (shown_at name clock (tacks_by first second flags) t) → P (decode a)
-  shown-as P h p = subst P (sym (shown-table h)) p
+  pub raised-as : (P : Table → Type 0) → Holds a (raised_at clock (both_tacks first second) t) → P (raised_at clock (tacks_by first second flags) t) → P (decode a)
+  raised-as P h p = subst P (sym (raised-table h)) p
 
-  pub judged-from : {d : List ℕ} {r : calls.Answer} → Holds a (shown_at name clock (both_tacks first second) t)
+  pub judged-from : (name : List ℕ) {d : List ℕ} {r : calls.Answer} → Holds a (raised_at clock (both_tacks first second) t)
       → r ≡ calls.judgement true (verdict_by_two name clock (tacks_by first second flags) (decode a)) (no_room_in_two name clock (tacks_by first second flags) (decode a))
       → d ≡ encode (learn_two name clock (tacks_by first second flags) (decode a))
       → (r ≡ steps_answer_two name clock (tacks_by first second flags) t) × (d ≡ encode (steps_two name clock (tacks_by first second flags) t))
-  judged-from h p q =
+  judged-from name h p q =
       let tacks : List Shown = tacks_by first second flags in (
-        p ∙ ap (λ (u : Table). calls.judgement true (verdict_by_two name clock tacks u) (no_room_in_two name clock tacks u)) (shown-table h),
-        q ∙ ap (λ (u : Table). encode (learn_two name clock tacks u)) (shown-table h),
+        p ∙ ap (λ (u : Table). calls.judgement true (verdict_by_two name clock tacks u) (no_room_in_two name clock tacks u)) (raised-table h),
+        q ∙ ap (λ (u : Table). encode (learn_two name clock tacks u)) (raised-table h),
       )

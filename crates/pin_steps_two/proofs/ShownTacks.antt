@@ -15,8 +15,8 @@ use Rattle.pin_model.specs.Table.{NameRecord, Table, pinned_to, settled_at}
 use Rattle.pin_model.specs.Layout.{decode}
 use Rattle.pin_model.specs.Fits.{holds}
 use Rattle.pin_model.specs.Connection.{Shown, shown_in, tacks_in, key_shown}
-use Rattle.pin_model.specs.Judge.{raise, sight, show_tack, active_of}
-use Rattle.pin_model.specs.JudgeTwo.{contradicted, show_each, shown_at}
+use Rattle.pin_model.specs.Judge.{raise, active_of}
+use Rattle.pin_model.specs.JudgeTwo.{contradicted, raise_each, raised_at}
 use Rattle.pin_model.proofs.Lists.{any-ext, any_append}
 use Rattle.pin_records.specs.Holds.{Holds}
 use Rattle.pin_records.specs.Find.{is_free}
@@ -116,38 +116,34 @@ module _ (first second : List ℕ) where
         (λ r. active_of name clock r && not (key_shown (tacks_by first second flags) r.key))
         (λ r. ap (λ (b : Bool). active_of name clock r && not b) (sym (shown-same r.key))) (used t.names)
 
-    each_same : (name : List ℕ) (clock : ℕ) (t : Table) → show_each name clock (both_tacks first second) t ≡ show_each name clock (tacks_by first second flags) t
+    raised-same : (t : Table) → raise_each (both_tacks first second) t ≡ raise_each (tacks_by first second flags) t
     unfolding tacks_in
-    each_same name clock t = go first second
+    raised-same t = go first second
       where
-        go : (f s : List ℕ) → show_each name clock (shown_in true f ++ shown_in true s) t ≡ show_each name clock (shown_in on-first f ++ shown_in on-second s) t
+        go : (f s : List ℕ) → raise_each (shown_in true f ++ shown_in true s) t ≡ raise_each (shown_in on-first f ++ shown_in on-second s) t
         go [] [] = refl
         go [] (b ∷ bs) = refl
         go (a ∷ l) [] = refl
         go (a ∷ l) (b ∷ bs) = refl
 
-    pub shown_at-same : (name : List ℕ) (clock : ℕ) (t : Table)
-        → shown_at name clock (both_tacks first second) t ≡ shown_at name clock (tacks_by first second flags) t
-    shown_at-same name clock t = ap (settled_at clock) (each_same name clock t)
+    pub raised_at-same : (clock : ℕ) (t : Table) → raised_at clock (both_tacks first second) t ≡ raised_at clock (tacks_by first second flags) t
+    raised_at-same clock t = ap (settled_at clock) (raised-same t)
 
--- one tack shown, and then the next
-module _ (name : List ℕ) (clock : ℕ) where
-  pub shown-none : {d : List ℕ} (tack : List ℕ) (t : Table) → length tack ≡ 0 → Holds d t → Holds d (show_each name clock (shown_in true tack) t)
-  shown-none [] t e h = h
-  shown-none (b ∷ bs) t e h = absurd (omega arith)
+-- floors raised by one tack, and by the next
+pub raised-none : {d : List ℕ} (tack : List ℕ) (t : Table) → length tack ≡ 0 → Holds d t → Holds d (raise_each (shown_in true tack) t)
+raised-none [] t e h = h
+raised-none (b ∷ bs) t e h = absurd (omega arith)
 
-  pub shown-one : {a d : List ℕ} (tack : List ℕ) (t : Table) → length tack ≡ 166 → Holds a (raise tack t) → Holds d (sight name clock tack (decode a))
-      → Holds d (show_each name clock (shown_in true tack) t)
-  shown-one [] t e g h = absurd (omega arith)
-  shown-one {d = d} (b ∷ bs) t e g h = subst (λ (u : Table). Holds d (sight name clock (b ∷ bs) u)) (holds-decode g) h
+pub raised-one : {d : List ℕ} (tack : List ℕ) (t : Table) → length tack ≡ 166 → Holds d (raise tack t) → Holds d (raise_each (shown_in true tack) t)
+raised-one [] t e h = absurd (omega arith)
+raised-one (b ∷ bs) t e h = h
 
-  show-append : (l m : List Shown) (t : Table) → show_each name clock (l ++ m) t ≡ show_each name clock m (show_each name clock l t)
-  show-append [] m t = refl
-  show-append (s ∷ l) m t = show-append l m (show_tack name clock s.tack t)
+raise-append : (l m : List Shown) (t : Table) → raise_each (l ++ m) t ≡ raise_each m (raise_each l t)
+raise-append [] m t = refl
+raise-append (s ∷ l) m t = raise-append l m (raise s.tack t)
 
-  pub shown-both : {a d e : List ℕ} (first second : List ℕ) (t : Table) → Holds a (show_each name clock (shown_in true first) t)
-      → Holds d (show_each name clock (shown_in true second) (decode a)) → Holds e (settled_at clock (decode d))
-      → Holds e (shown_at name clock (both_tacks first second) t)
-  shown-both {a} {d} {e} first second t f g h =
-      subst (λ (u : Table). Holds e (settled_at clock u))
-      (holds-decode g ∙ ap (show_each name clock (shown_in true second)) (holds-decode f) ∙ sym (show-append (shown_in true first) (shown_in true second) t)) h
+pub raised_both : {a d e : List ℕ} (first second : List ℕ) (clock : ℕ) (t : Table) → Holds a (raise_each (shown_in true first) t)
+    → Holds d (raise_each (shown_in true second) (decode a)) → Holds e (settled_at clock (decode d)) → Holds e (raised_at clock (both_tacks first second) t)
+raised_both {a} {d} {e} first second clock t f g h =
+    subst (λ (u : Table). Holds e (settled_at clock u))
+    (holds-decode g ∙ ap (raise_each (shown_in true second)) (holds-decode f) ∙ sym (raise-append (shown_in true first) (shown_in true second) t)) h

@@ -2,20 +2,19 @@
 ghost use Rattle.std.specs.Prelude.{◌≡◌, true};
 ghost use Rattle.host_name.specs.Name.{well_formed};
 ghost use Rattle.pin_model.specs.Layout.{decode, encode};
-ghost use Rattle.pin_model.specs.JudgeTwo.{verdict_by_two, shown_at, learn_two, no_room_in_two};
+ghost use Rattle.pin_model.specs.JudgeTwo.{verdict_by_two, raised_at, learn_two, no_room_in_two};
 ghost use Rattle.pin_model.specs.Calls as calls;
 ghost use Rattle.pin_answers.specs.Numbers.{judgement_two_answer};
 ghost use Rattle.pin_records.specs.Holds.{Stored};
 ghost use Rattle.pin_refusals_two.specs.Parts.{tacks_by, TackParts};
-ghost use Rattle.pin_steps_two.specs.BegunTwo.{BegunTwo};
+ghost use Rattle.pin_steps_two.specs.SettledTwo.{SettledTwo};
 ghost use Rattle.pin_steps_two.specs.StepsTwo.{steps_two, steps_answer_two};
 
-use crate::{learn, removal, show, verdict};
+use crate::{learn, raise, removal, verdict};
 use pin_answers::{Judgement, Verdict};
 use pin_table::minutes::Minutes;
 
-// From the verdict on, where what is shown has raised its floors and set its lasts, and latest is the clock. Contradicted, nothing more
-// changes.
+// From the verdict on, where floors are raised and latest is the clock. Contradicted, nothing more changes.
 fn from_verdict(
     area: &mut [u8],
     name: &[u8],
@@ -24,7 +23,7 @@ fn from_verdict(
     flags: u8,
     clock: Minutes,
 ) -> Judgement
-    requires { Stored area.old × BegunTwo clock.0 (decode area.old) × TackParts first.now second.now × (well_formed name.now ≡ true) }
+    requires { Stored area.old × SettledTwo clock.0 (decode area.old) × TackParts first.now second.now × (well_formed name.now ≡ true) }
     ensures { (judgement_two_answer result ≡ calls.judgement true (verdict_by_two name.now clock.0 (tacks_by first.now second.now flags) (decode area.old)) (no_room_in_two name.now clock.0 (tacks_by first.now second.now flags) (decode area.old))) × (area.new ≡ encode (learn_two name.now clock.0 (tacks_by first.now second.now flags) (decode area.old))) }
 {
     if verdict::is_contradicted(area, name, first, second, clock) {
@@ -57,9 +56,9 @@ pub fn apply(
     flags: u8,
     clock: Minutes,
 ) -> Judgement
-    requires { Stored area.old × BegunTwo clock.0 (shown_at name.now clock.0 (tacks_by first.now second.now flags) (decode area.old)) × TackParts first.now second.now × (well_formed name.now ≡ true) }
+    requires { Stored area.old × SettledTwo clock.0 (raised_at clock.0 (tacks_by first.now second.now flags) (decode area.old)) × TackParts first.now second.now × (well_formed name.now ≡ true) }
     ensures { (judgement_two_answer result ≡ steps_answer_two name.now clock.0 (tacks_by first.now second.now flags) (decode area.old)) × (area.new ≡ encode (steps_two name.now clock.0 (tacks_by first.now second.now flags) (decode area.old))) }
 {
-    show::show_tacks(area, name, first, second, clock);
+    raise::raise_floors(area, first, second, clock);
     from_verdict(area, name, first, second, flags, clock)
 }

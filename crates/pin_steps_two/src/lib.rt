@@ -3,6 +3,6 @@
 pub mod apply;
 pub mod learn;
 pub mod matching;
+pub mod raise;
 pub mod removal;
-pub mod show;
 pub mod verdict;

@@ -1,9 +1,7 @@
 // Minutes since 1970: a kind of number of their own, so that no slot is added to a clock.
 ghost use Rattle.std.specs.Prelude.{◌≡◌, ◌+◌, ◌-◌, ◌≤◌, min, length, leb};
-ghost use Rattle.std.proofs.Math.Option.{some};
 ghost use Rattle.octets.specs.Octets.{part, number};
 ghost use Rattle.pin_model.specs.Table.{thirty_days, clock_limit};
-ghost use Rattle.pin_model.specs.Converter.{last_from, sum_odd};
 ghost use Rattle.pin_table.specs.Clocks.{clock_of};
 
 #[derive(Drop)]
@@ -57,37 +55,6 @@ impl Minutes {
             return self.later();
         }
         Minutes(self.0 + since)
-    }
-
-    // Whether `pin_end` added all of thirty days to reach this end: it is twice that behind initial, or more.
-    fn thirty_days_added(self, initial: Minutes) -> bool
-        ensures { result ≡ leb 86400 (self.0 - initial.0) }
-    {
-        let added = Minutes::THIRTY_DAYS;
-        (initial.0 as u64) + 2 * (added.0 as u64) <= (self.0 as u64)
-    }
-
-    // The clock at which this end was set, from the pin's initial clock: what `pin_end` gives goes back to it.
-    pub fn set_at(self, initial: Minutes) -> Minutes
-        ensures { result.0 ≡ last_from initial.0 (some self.0) }
-    {
-        if self.thirty_days_added(initial) {
-            let days = Minutes::THIRTY_DAYS;
-            return Minutes(self.0 - days.0);
-        }
-        let sum = (self.0 as u64) + (initial.0 as u64);
-        Minutes((sum / 2) as u32)
-    }
-
-    // Whether the sum that is halved for it is odd: `pin_end` gives no such end.
-    pub fn sum_odd(self, initial: Minutes) -> bool
-        ensures { result ≡ sum_odd initial.0 (some self.0) }
-    {
-        if self.thirty_days_added(initial) {
-            return false;
-        }
-        let sum = (self.0 as u64) + (initial.0 as u64);
-        sum % 2 == 1
     }
 }
 

@@ -1,7 +1,7 @@
 // Where things lie in the area: slots and their fields.
 ghost use Rattle.std.specs.Prelude.{◌≡◌, ◌<◌, length};
 ghost use Rattle.octets.specs.Octets.{part};
-ghost use Rattle.pin_model.specs.Layout.{area_length, latest_in, of_two, key_slot, name_slot, is_used, key_in, key_number, name_length, initial_in, end_in, last_in, name_in};
+ghost use Rattle.pin_model.specs.Layout.{area_length, latest_in, of_two, key_slot, name_slot, is_used, key_in, key_number, name_length, initial_in, end_in, name_in};
 ghost use Rattle.pin_model.specs.Sound.{refers_to};
 
 use crate::minutes;
@@ -18,7 +18,7 @@ pub const FLOOR_AT: usize = 1;
 
 pub const KEY_AT: usize = 8;
 
-// Used 0/1; key slot number; name length; end present 0/1; initial 4; end 4; last 4; name, and zeros up to 256.
+// Used 0/1; key slot number; name length; end present 0/1; initial 4; end 4; four zeros; name, and zeros up to 256.
 pub const NAME_SLOT_LENGTH: usize = 272;
 
 const KEY_NUMBER_AT: usize = 1;
@@ -31,7 +31,7 @@ const INITIAL_AT: usize = 4;
 
 pub const END_AT: usize = 8;
 
-pub const LAST_AT: usize = 12;
+pub const UNUSED_AT: usize = 12;
 
 pub const NAME_AT: usize = 16;
 
@@ -138,13 +138,6 @@ pub fn end(s: &[u8]) -> Minutes
     ensures { result.0 ≡ end_in s.now }
 {
     minutes::minutes_at(s, END_AT)
-}
-
-pub fn last(s: &[u8]) -> Minutes
-    requires { length s.now ≡ 272 }
-    ensures { result.0 ≡ last_in s.now }
-{
-    minutes::minutes_at(s, LAST_AT)
 }
 
 pub fn name(s: &[u8]) -> &[u8]

@@ -8,13 +8,11 @@ use mir.Val.{SFits, to_z, of_z}
 use mir.Facts.{to_z-of_z}
 use Rattle.tack_extension.specs.Answers.{alert_of}
 use Rattle.pin_model.specs.Calls.{Answer, answer_of, plain}
-use Rattle.pin_answers.specs.Numbers.{deletion_answer, starting_answer, conversion_answer}
+use Rattle.pin_answers.specs.Numbers.{deletion_answer, starting_answer}
 use Rattle.pin_answers.specs.declared.Deletion.{Deletion}
 use Rattle.pin_answers.specs.declared.Deletion.TheVariants as deletion
 use Rattle.pin_answers.specs.declared.Starting.{Starting}
 use Rattle.pin_answers.specs.declared.Starting.TheVariants as starting
-use Rattle.pin_answers.specs.declared.Conversion.{Conversion}
-use Rattle.pin_answers.specs.declared.Conversion.TheVariants as conversion
 use Rattle.tack.specs.Table.{judgement_of, outcome_of, inspection_of}
 
 -- x is what the callee's answer says, of the same edition
@@ -32,23 +30,19 @@ pub starting-alert : (s : Starting) → (starting_answer s).alert ≡ alert_of (
 starting-alert starting.Started = refl
 starting-alert (starting.Refused r) = refl
 
-pub conversion-alert : (c : Conversion) → (conversion_answer c).alert ≡ alert_of (conversion_answer c).number
-conversion-alert conversion.Converted = refl
-conversion-alert (conversion.Refused r) = refl
-
 pub judgement-is : (alerts : ℕ → ℕ) (n a : ℕ) (full : Bool) (x y : Answer) → n ≡ x.number → a ≡ alerts n → x.alert ≡ alerts x.number
     → full ≡ x.no_room → x ≡ y → record { number = n; alert = a; no_room = full } ≡ judgement_of y
 unfolding judgement_of
 judgement-is alerts n a full x y hn ha own hf h = rw (ha, hn, hf, ← own) (ap judgement_of h)
 
 pub inspection-refused : (n a m : ℕ) (y : Answer) → n ≡ m → a ≡ alert_of n → plain m ≡ y
-    → record { number = n; alert = a; floor = 0; initial = 0; end = 0; last = 0; minutes_left = (plain m).minutes_left } ≡ inspection_of y
+    → record { number = n; alert = a; floor = 0; initial = 0; end = 0; minutes_left = (plain m).minutes_left } ≡ inspection_of y
 unfolding inspection_of
 inspection-refused n a m y hn ha h = rw (ha, hn) (ap inspection_of h)
 
 -- minutes left that were kept in a field
-pub inspection-ended : (floor initial end last : ℕ) (left : ℤ) {kept : ℤ} (y : Answer) → SFits w64 left → kept ≡ to_z w64 (of_z w64 left)
-    → answer_of false 6 false floor initial end last left ≡ y
-    → record { number = 6; alert = 0; floor = floor; initial = initial; end = end; last = last; minutes_left = kept } ≡ inspection_of y
+pub inspection-ended : (floor initial end : ℕ) (left : ℤ) {kept : ℤ} (y : Answer) → SFits w64 left → kept ≡ to_z w64 (of_z w64 left)
+    → answer_of false 6 false floor initial end left ≡ y
+    → record { number = 6; alert = 0; floor = floor; initial = initial; end = end; minutes_left = kept } ≡ inspection_of y
 unfolding inspection_of alert_of
-inspection-ended floor initial end last left y fits k h = rw (k, to_z-of_z fits) (ap inspection_of h)
+inspection-ended floor initial end left y fits k h = rw (k, to_z-of_z fits) (ap inspection_of h)

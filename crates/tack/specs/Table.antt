@@ -31,6 +31,5 @@ inspection_of a =
       floor = a.floor;
       initial = a.initial;
       end = a.end;
-      last = a.last;
       minutes_left = a.minutes_left;
     }

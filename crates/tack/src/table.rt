@@ -1,8 +1,7 @@
-// The pin table: judging, deletion, inspection, starting and converting.
+// The pin table: judging, deletion, inspection and starting.
 ghost use Rattle.std.specs.Prelude.{◌≡◌};
 ghost use Rattle.pin_model.specs.Calls as calls;
 ghost use Rattle.pin_model.specs.Connection.{connection, checks_by};
-ghost use Rattle.pin_model.specs.Converter.{converter_answer, area_converted};
 ghost use Rattle.tack.specs.Table.{judgement_of, outcome_of, inspection_of};
 
 use pin_answers::{Inspection, Judgement};
@@ -35,7 +34,6 @@ pub struct InspectionAnswer {
     pub floor: u8,
     pub initial: u32,
     pub end: u32,
-    pub last: u32,
     pub minutes_left: i64,
 }
 
@@ -112,24 +110,18 @@ pub extern "C" fn tack_inspect(
     ensures { result ≡ inspection_of (calls.answered (calls.inspect second name.now clock) table.now) }
 {
     match inspection::inspect(table, name, clock, second) {
-        Inspection::WithoutEnd {
-            floor,
-            initial,
-            last,
-        } => InspectionAnswer {
+        Inspection::WithoutEnd { floor, initial } => InspectionAnswer {
             number: 5,
             alert: 0,
             floor,
             initial,
             end: 0,
-            last,
             minutes_left: 0,
         },
         Inspection::WithEnd {
             floor,
             initial,
             end,
-            last,
             minutes_left,
         } => InspectionAnswer {
             number: 6,
@@ -137,7 +129,6 @@ pub extern "C" fn tack_inspect(
             floor,
             initial,
             end,
-            last,
             minutes_left,
         },
         Inspection::NotRecorded => InspectionAnswer {
@@ -146,7 +137,6 @@ pub extern "C" fn tack_inspect(
             floor: 0,
             initial: 0,
             end: 0,
-            last: 0,
             minutes_left: 0,
         },
         Inspection::Refused(refusal) => {
@@ -157,7 +147,6 @@ pub extern "C" fn tack_inspect(
                 floor: 0,
                 initial: 0,
                 end: 0,
-                last: 0,
                 minutes_left: 0,
             }
         }
@@ -170,18 +159,6 @@ pub extern "C" fn tack_start(table: &mut [u8], edition_two: bool) -> OutcomeAnsw
     ensures table { table.new ≡ calls.area_left (calls.start edition_two) table.old }
 {
     let number = pin_answers::starting_number(starting::start(table, edition_two));
-    OutcomeAnswer {
-        number,
-        alert: pin_answers::alert_of(number),
-    }
-}
-
-#[unsafe(no_mangle)]
-pub extern "C" fn tack_convert(table: &mut [u8]) -> OutcomeAnswer
-    ensures answer { result ≡ outcome_of (converter_answer table.old) }
-    ensures table { table.new ≡ area_converted table.old }
-{
-    let number = pin_answers::conversion_number(pin_convert::convert(table));
     OutcomeAnswer {
         number,
         alert: pin_answers::alert_of(number),

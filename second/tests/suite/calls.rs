@@ -180,20 +180,6 @@ pub fn name_slot(area: &[u8], slot: usize) -> &[u8] {
     &area[start..start + 272]
 }
 
-/// The last of the record in a name slot.
-pub fn last(area: &[u8], slot: usize) -> u32 {
-    let bytes = name_slot(area, slot);
-    u32::from_be_bytes([bytes[12], bytes[13], bytes[14], bytes[15]])
-}
-
-/// The same area with another last in a name slot.
-pub fn with_last(area: &[u8], slot: usize, last: u32) -> Area {
-    let mut area = area.to_vec();
-    let at = 4616 + 272 * slot + 12;
-    area[at..at + 4].copy_from_slice(&last.to_be_bytes());
-    area
-}
-
 /// The bytes of the area but for the latest clock.
 pub fn records(area: &[u8]) -> &[u8] {
     &area[4..]

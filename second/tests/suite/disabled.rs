@@ -44,11 +44,6 @@ fn at_clock(area: &[u8], clock: u32) -> Area {
     later
 }
 
-/// The same area after a call that showed the key of the record of `a.b`.
-fn seen_at(area: &[u8], clock: u32) -> Area {
-    with_last(&at_clock(area, clock), 0, clock)
-}
-
 fn with_floor(mut area: Area, floor: u8) -> Area {
     area[8 + 1] = floor;
     area
@@ -62,12 +57,12 @@ fn recording(key: [u8; 64], initial: u32) -> Area {
     area[4616..4619].copy_from_slice(&[1, 0, 3]);
     area[4620..4624].copy_from_slice(&initial.to_be_bytes());
     area[4632..4635].copy_from_slice(b"a.b");
-    with_last(&area, 0, initial)
+    area
 }
 
 /// `a.b` with K from 1000, active from 1600 to 2200.
 fn active() -> Area {
-    with_end(&seen_at(&recording(K, 1000), 1600), 2200)
+    with_end(&at_clock(&recording(K, 1000), 1600), 2200)
 }
 
 fn with_end(area: &[u8], end: u32) -> Area {
@@ -166,23 +161,17 @@ fn keys_full() {
 }
 
 /// Whatever record the name has: one with the key, none, or an inactive one with
-/// another key. By the default nothing else changes but latest, and the last of
-/// the record with the key.
+/// another key. By the default nothing else changes but latest.
 #[test]
 fn a_disabled_tack_raises_the_floor() {
     let mut area = active();
     let beside = Call::at(1600, "c").with(showing(L));
     assert_eq!(beside.judge(&mut area), verdict(0));
     let shown = extension(&tack(K, 5, 9, u32::MAX), &[], 0);
-    let (seen, not_seen) = (seen_at(&area, 1700), at_clock(&area, 1700));
-    let cases = [
-        ("a.b", 1, seen),
-        ("new", 0, not_seen.clone()),
-        ("c", 0, not_seen),
-    ];
-    for (name, number, after) in cases {
+    let expected = with_floor(at_clock(&area, 1700), 5);
+    for (name, number) in [("a.b", 1), ("new", 0), ("c", 0)] {
         let call = Call::at(1700, name).with(shown.clone());
-        answers(&call, &area, verdict(number), &with_floor(after, 5));
+        answers(&call, &area, verdict(number), &expected);
         let (judgement, after) = judged(&call.in_the_old_way(), &area);
         assert_eq!(judgement, verdict(number));
         assert_eq!(key_slot(&after, 0)[..2], [1, 5]);
@@ -203,7 +192,7 @@ fn a_disabled_tack_raises_the_floor_of_a_full_table() {
 fn an_enabled_tack_extends_its_record_in_both_ways() {
     for area in [recording(K, 1000), active()] {
         for call in Call::at(1700, "a.b").with(showing(K)).in_both_ways() {
-            let expected = with_end(&seen_at(&area, 1700), 2400);
+            let expected = with_end(&at_clock(&area, 1700), 2400);
             answers(&call, &area, verdict(1), &expected);
         }
     }
@@ -214,7 +203,7 @@ fn a_disabled_tack_extends_no_record_in_either_way() {
     for (area, number) in [(recording(K, 1000), 0), (active(), 1)] {
         let shown = Call::at(1700, "a.b").with(showing_disabled(K));
         for call in shown.in_both_ways() {
-            answers(&call, &area, verdict(number), &seen_at(&area, 1700));
+            answers(&call, &area, verdict(number), &at_clock(&area, 1700));
         }
     }
 }
@@ -264,7 +253,7 @@ fn latest_is_set_without_a_record() {
 /// area but for latest.
 #[test]
 fn the_choice_changes_from_call_to_call() {
-    let until_1007 = with_end(&seen_at(&recording(L, 1003), 1005), 1007);
+    let until_1007 = with_end(&recording(L, 1003), 1007);
     let list = [
         (1000, showing_disabled(K), false, 0, empty_area()),
         (1001, showing_disabled(K), true, 0, recording(K, 1001)),

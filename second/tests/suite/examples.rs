@@ -61,8 +61,6 @@ fn e4_makes_the_stated_table() {
     expected[8..16].copy_from_slice(&[1, 3, 0, 0, 0, 0, 0, 0]);
     expected[16..80].copy_from_slice(&[0x11; 64]);
     expected[4616..4624].copy_from_slice(&[1, 0, 3, 0, 0, 0, 0x03, 0xE8]);
-    // The last, which creation sets to initial.
-    expected[4628..4632].copy_from_slice(&[0, 0, 0x03, 0xE8]);
     expected[4632..4635].copy_from_slice(&[0x61, 0x2E, 0x62]);
     let area = after_e4();
     assert!(area == expected);
@@ -73,14 +71,12 @@ fn e4_makes_the_stated_table() {
 fn e5_to_e7_active_until_the_end() {
     let area = after_e5();
     assert_eq!(end(&area), 2200);
-    assert_eq!((latest(&area), last(&area, 0)), (1600, 1600));
+    assert_eq!(latest(&area), 1600);
 
-    for (clock, expected) in [(2199, verdict(2, 49)), (2200, verdict(0, 0))] {
-        let mut after = area.clone();
-        assert_eq!(Call::at(clock, "a.b").judge(&mut after), expected);
-        assert_eq!(u64::from(latest(&after)), clock);
-        assert_eq!(last(&after, 0), 1600);
-    }
+    let before_the_end = Call::at(2199, "a.b").judge(&mut area.clone());
+    assert_eq!(before_the_end, verdict(2, 49));
+    let at_the_end = Call::at(2200, "a.b").judge(&mut area.clone());
+    assert_eq!(at_the_end, verdict(0, 0));
 }
 
 #[test]
@@ -89,7 +85,6 @@ fn e8_thirty_days_at_most() {
     let call = Call::at(100_000, "a.b").with(showing(K));
     assert_eq!(call.judge(&mut area), verdict(1, 0));
     assert_eq!(end(&area), 143_200);
-    assert_eq!(last(&area, 0), 100_000);
 }
 
 #[test]

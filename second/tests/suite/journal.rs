@@ -2,9 +2,8 @@
 //!
 //! Row for row the journal and the table must agree, and so must "no room".
 //! The journal reads every name folded; the calls have any spelling. It also
-//! keeps the floors, which calls answered 23 raise as well as verdicts, and the
-//! last sights. Each call is by the default or in the old way, "changed freely
-//! between calls".
+//! keeps the floors, which calls answered 23 raise as well as verdicts. Each call
+//! is by the default or in the old way, "changed freely between calls".
 
 use std::collections::{HashMap, HashSet};
 
@@ -18,10 +17,7 @@ const LONGEST: u64 = 43_200;
 struct Row {
     key: u8,
     initial: u64,
-    /// When the key was last shown with activation 1.
     seen: Option<u64>,
-    /// The same, activation or not.
-    last: u64,
 }
 
 impl Row {
@@ -66,7 +62,6 @@ impl Journal {
         self.raise_floor(shown);
         if let Some(row) = self.rows.get_mut(name) {
             if row.key == shown.key {
-                row.last = clock;
                 if shown.activation {
                     row.seen = Some(clock);
                 }
@@ -86,7 +81,6 @@ impl Journal {
             key: shown.key,
             initial: clock,
             seen: None,
-            last: clock,
         };
         self.rows.insert(name.to_string(), row);
         self.floors.entry(shown.key).or_insert(shown.min_generation);
@@ -116,7 +110,6 @@ impl Journal {
             assert_eq!(u64::from(name_record.initial.value()), row.initial);
             let end = name_record.end.map(|end| u64::from(end.value()));
             assert_eq!(end, row.end());
-            assert_eq!(u64::from(name_record.last.value()), row.last);
         }
     }
 }

@@ -3,14 +3,12 @@
 mod calls;
 mod calls_two;
 mod capitals;
-mod convert;
 mod disabled;
 mod examples;
 mod expired;
 mod extension;
 mod extension_two;
 mod journal;
-mod last;
 mod manage;
 mod manage_two;
 mod names;

@@ -17,20 +17,16 @@ fn nothing_shown(number: u8) -> Inspection {
         floor: 0,
         initial: 0,
         end: 0,
-        last: 0,
         minutes_left: 0,
     }
 }
 
-/// `a.b` and `c` on one key, the first with end 2200, the second seen at its
-/// creation and then disabled; latest 1700.
+/// `a.b` and `c` on one key, the first with end 2200; latest 1600.
 fn two_names() -> Area {
     let mut area = empty_area();
     Call::at(1000, "a.b").with(showing(K)).judge(&mut area);
     Call::at(1600, "a.b").with(showing(K)).judge(&mut area);
     Call::at(1600, "c").with(showing(K)).judge(&mut area);
-    let disabled = Call::at(1700, "c").with(showing_disabled(K));
-    assert_eq!(disabled.number(&mut area), 0);
     area
 }
 
@@ -44,7 +40,7 @@ fn deletion_takes_the_key_with_the_last_name() {
     assert_eq!(delete(&mut area, b"a.b"), outcome(4));
     assert_eq!(delete(&mut area, b"c"), outcome(3));
     assert!(records(&area).iter().all(|byte| *byte == 0));
-    assert_eq!(latest(&area), 1700);
+    assert_eq!(latest(&area), 1600);
 }
 
 #[test]
@@ -66,7 +62,6 @@ fn inspection_with_and_without_end() {
             floor: 3,
             initial: 1000,
             end: 2200,
-            last: 1600,
             minutes_left,
         };
         assert_eq!(inspect(&area, b"a.b", clock, false), expected);
@@ -76,7 +71,6 @@ fn inspection_with_and_without_end() {
     let without_end = Inspection {
         floor: 3,
         initial: 1600,
-        last: 1700,
         ..nothing_shown(5)
     };
     assert_eq!(inspect(&area, b"c", 5000, false), without_end);

@@ -19,13 +19,12 @@ fn nothing_shown(number: u8) -> Inspection {
         floor: 0,
         initial: 0,
         end: 0,
-        last: 0,
         minutes_left: 0,
     }
 }
 
-/// `a.b` on A from 1000, without end, and on B from 1000 to 1800, last seen at
-/// 1400; `c` on B; latest 1400. The record on A has slot 1, the one on B slot 0.
+/// `a.b` on A from 1000, without end, and on B from 1000 to 1800; `c` on B;
+/// latest 1400. The record on A has slot 1, the one on B slot 0.
 fn two_records() -> Area {
     let mut area = empty_area_two();
     let tacks = [tack(B, 2, 3, u32::MAX), tack(A, 3, 3, u32::MAX)];
@@ -37,7 +36,6 @@ fn two_records() -> Area {
     let slot = 4616;
     area[slot + 3] = 1;
     area[slot + 8..slot + 12].copy_from_slice(&extended);
-    let area = with_last(&area, 0, 1400);
     assert!(is_sound(&area));
     area
 }
@@ -65,7 +63,6 @@ fn inspection_by_slot_order() {
         floor: 3,
         initial: 1000,
         end: 1800,
-        last: 1400,
         minutes_left: 300,
         ..nothing_shown(6)
     };
@@ -73,7 +70,6 @@ fn inspection_by_slot_order() {
     let second = Inspection {
         floor: 3,
         initial: 1000,
-        last: 1000,
         ..nothing_shown(5)
     };
     assert_eq!(inspect(&area, b"a.B", 1500, true), second);

@@ -17,10 +17,7 @@ struct Row {
     name: String,
     key: u8,
     initial: u64,
-    /// When an enabled tack last showed the key.
     seen: Option<u64>,
-    /// When any tack did.
-    last: u64,
 }
 
 impl Row {
@@ -72,7 +69,6 @@ impl Journal {
             return (22, false);
         }
         self.latest = clock;
-        self.see(clock, name, shown);
         let rows = self.rows.iter().flatten();
         let live: Vec<u8> = rows
             .filter(|row| row.name == name && row.is_live(clock))
@@ -104,16 +100,6 @@ impl Journal {
         }
         self.keys = raised;
         Some(())
-    }
-
-    /// Whatever the verdict will be.
-    fn see(&mut self, clock: u64, name: &str, shown: &[Shown]) {
-        let rows = self.rows.iter_mut().flatten();
-        for row in rows.filter(|row| row.name == name) {
-            if shown.iter().any(|shown| shown.key == row.key) {
-                row.last = clock;
-            }
-        }
     }
 
     fn strike(&mut self, clock: u64, name: &str, shown: &[Shown]) {
@@ -161,7 +147,6 @@ impl Journal {
             key: shown.key,
             initial: clock,
             seen: None,
-            last: clock,
         });
         true
     }
@@ -203,14 +188,14 @@ impl Journal {
         slot[..4].copy_from_slice(&[1, key_slot as u8, name.len() as u8, present]);
         slot[4..8].copy_from_slice(&(row.initial as u32).to_be_bytes());
         slot[8..12].copy_from_slice(&(end.unwrap_or(0) as u32).to_be_bytes());
-        slot[12..16].copy_from_slice(&(row.last as u32).to_be_bytes());
         slot[16..16 + name.len()].copy_from_slice(name);
     }
 
-    /// The first or the second row of a name.
-    fn row(&self, name: &str, second: bool) -> Option<&Row> {
+    /// Initial and end of the first or the second row of a name.
+    fn row(&self, name: &str, second: bool) -> Option<(u64, Option<u64>)> {
         let mut rows = self.rows.iter().flatten().filter(|row| row.name == name);
-        rows.nth(usize::from(second))
+        let row = rows.nth(usize::from(second))?;
+        Some((row.initial, row.end()))
     }
 }
 
@@ -266,28 +251,21 @@ fn agree_over_a_run(mix: &Mix, calls: usize) -> Met {
 }
 
 #[track_caller]
-fn shows_row(inspection: Inspection, clock: u64, row: Option<&Row>) {
+fn shows_row(inspection: Inspection, clock: u64, row: Option<(u64, Option<u64>)>) {
     let Inspection {
         number,
         initial,
         end,
-        last,
         minutes_left,
         ..
     } = inspection;
-    let found = [initial, end, last].map(u64::from);
-    let (expected_number, fields, left) = match row.map(|row| (row, row.end())) {
-        None => (4, [0; 3], 0),
-        Some((row, None)) => (5, [row.initial, 0, row.last], 0),
-        Some((row, Some(end))) => {
-            let left = end as i64 - clock as i64;
-            (6, [row.initial, end, row.last], left)
-        }
+    let found = (number, u64::from(initial), u64::from(end), minutes_left);
+    let expected = match row {
+        None => (4, 0, 0, 0),
+        Some((initial, None)) => (5, initial, 0, 0),
+        Some((initial, Some(end))) => (6, initial, end, end as i64 - clock as i64),
     };
-    assert_eq!(
-        (number, found, minutes_left),
-        (expected_number, fields, left)
-    );
+    assert_eq!(found, expected);
 }
 
 fn any_tacks(mix: &Mix, random: &mut Random) -> Vec<Shown> {

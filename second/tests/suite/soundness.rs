@@ -11,7 +11,7 @@ const SECOND_NAME: usize = 4616 + 272;
 const THIRD_NAME: usize = 4616 + 2 * 272;
 
 /// `a.b` from 1000 to 2200 on key slot 0, `c` from 1600 without end on key
-/// slot 1; both last seen at 1600, which is latest.
+/// slot 1; latest 1600.
 fn sound() -> Area {
     let mut area = empty_area();
     let first = showing(key(0x11));
@@ -108,6 +108,10 @@ fn name_slots() {
         let area = changed(THIRD_NAME + at, &[1]);
         is_damaged(&area, Damage::FreeNameSlotNotZero);
     }
+    for at in 12..16 {
+        let area = changed(FIRST_NAME + at, &[1]);
+        is_damaged(&area, Damage::NameFillNotZero);
+    }
     for at in [19, 20, 268] {
         let area = changed(FIRST_NAME + at, b"a");
         is_damaged(&area, Damage::NamePaddingNotZero);
@@ -187,40 +191,4 @@ fn active_period() {
     assert!(is_sound(&field(FIRST_NAME + 8, 44_800)));
     let area = field(FIRST_NAME + 8, 44_801);
     is_damaged(&area, Damage::EndTooLate);
-}
-
-#[test]
-fn last() {
-    for last in [1000, 1300, 1600] {
-        assert!(is_sound(&with_last(&sound(), 0, last)));
-    }
-    for last in [0, 1, 999] {
-        let area = with_last(&sound(), 0, last);
-        is_damaged(&area, Damage::LastBeforeInitial);
-    }
-    for last in [1601, 4_294_924_095, u32::MAX] {
-        let area = with_last(&sound(), 0, last);
-        is_damaged(&area, Damage::LastAfterLatest);
-    }
-    // A record without an end has a last as well.
-    let area = with_last(&sound(), 1, 1599);
-    is_damaged(&area, Damage::LastBeforeInitial);
-    let area = with_last(&sound(), 1, 1601);
-    is_damaged(&area, Damage::LastAfterLatest);
-}
-
-/// The end is limited by last, however late latest is.
-#[test]
-fn end_by_last() {
-    let last_clock = 4_294_924_095_u32.to_be_bytes();
-    for (last, latest_end) in [(1000, 44_200_u32), (1300, 44_500), (1600, 44_800)] {
-        for latest in [1600_u32.to_be_bytes(), last_clock] {
-            let mut area = with_last(&changed(0, &latest), 0, last);
-            area[FIRST_NAME + 8..FIRST_NAME + 12].copy_from_slice(&latest_end.to_be_bytes());
-            assert!(is_sound(&area));
-            let too_late = (latest_end + 1).to_be_bytes();
-            area[FIRST_NAME + 8..FIRST_NAME + 12].copy_from_slice(&too_late);
-            is_damaged(&area, Damage::EndTooLate);
-        }
-    }
 }

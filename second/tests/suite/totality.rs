@@ -2,8 +2,7 @@
 //! 23 of edition one may change a floor.
 
 use second::extension::{breaks_span, read, signed_bytes, tack_span, write};
-use second::{convert, delete, extension_two, inspect, start};
-use second::{is_sound, is_sound_old, is_well_formed};
+use second::{delete, extension_two, inspect, is_sound, is_well_formed, start};
 
 use crate::calls::*;
 use crate::calls_two::{showing_two, CallTwo};
@@ -125,30 +124,11 @@ fn answers_are_consistent(random: &mut Random, area: &[u8]) {
         after == area
     });
 
-    is_converted(area);
     for yes in [false, true] {
         inspect(area, &spelling, clock, yes);
         let mut after = area.to_vec();
         let started = start(&mut after, yes).number == 7;
         assert_eq!(started, area.len() == 39_432);
-    }
-}
-
-/// The area as it is, and without its lasts.
-fn is_converted(area: &[u8]) {
-    let mut old = area.to_vec();
-    let name_slots = old.get_mut(4616..).unwrap_or_default();
-    for slot in name_slots.chunks_exact_mut(272) {
-        slot[12..16].fill(0);
-    }
-    for area in [area, &old] {
-        let mut after = area.to_vec();
-        let number = convert(&mut after).number;
-        assert_eq!(number == 10, area.len() != 39_432);
-        assert!(match number {
-            31 => is_sound_old(area) && is_sound(&after),
-            _ => after == area,
-        });
     }
 }
 

@@ -73,9 +73,6 @@ pub struct Inspection {
     pub initial: u32,
     /// When the pin ends or ended, in minutes since 1970; none for a pin that was never activated.
     pub end: Option<u32>,
-    /// The clock of the latest call with a verdict, for the name, that showed the key, enabled or not. Of a record from
-    /// [`from_old_bytes`](crate::table::PinTable::from_old_bytes), until it is shown again, when its end was set, or `initial`.
-    pub last: u32,
     /// The end minus the given clock: 0 at the end, where the pin is no longer active, and negative after it.
     pub minutes_left: Option<i64>,
 }

@@ -12,8 +12,7 @@ use std::fmt;
 pub enum Refusal {
     /// 10: the area is not 39,432 bytes long.
     AreaLength = 10,
-    /// 11: the bytes hold no sound table. One that was kept before its records had a last sight is
-    /// [converted](crate::table::PinTable::from_old_bytes) first.
+    /// 11: the bytes hold no sound table.
     Damaged = 11,
     /// 12: the name is no host name that the store takes.
     NameMalformed = 12,

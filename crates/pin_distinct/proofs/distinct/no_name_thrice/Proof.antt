@@ -11,6 +11,7 @@ use Rattle.octets.proofs.Search.{every_true, every-false}
 use Rattle.pin_table.proofs.Rules.{no, yes}
 use Rattle.pin_distinct.specs.Hashes.{name_mark}
 use Rattle.pin_distinct.specs.Pins.{no_name_thrice}
+use Rattle.pin_distinct.proofs.Hashing.{used-formed}
 use Rattle.pin_distinct.proofs.Doubles.{FewSeen, few-none, few-free, few-first, few-second, few-more}
 use Rattle.pin_distinct.proofs.distinct.no_name_thrice.Statement.{statement}
 use Rattle.pin_distinct.proofs.distinct.no_name_thrice.Tie as tie
@@ -44,7 +45,7 @@ name-mark-requires c κs =
     let o = c.before.before.before.before.before.before in
     let slot = c.before.before.name-slot.ensures in
     let used = ap is_used (sym slot.0) ∙ yes c.before.is-used.ensures c.if1.false in
-    (search rules, ap name_formed slot.0 ∙ o.requires.1 _ c.before.before.before.loop-test.true used)
+    (search rules, ap name_formed slot.0 ∙ used-formed o.args.area.now _ o.requires.1 c.before.before.before.loop-test.true used)
 
 add-requires : tie.Need-add-requires invariant-loop decreases-loop
 add-requires c κs = search rules

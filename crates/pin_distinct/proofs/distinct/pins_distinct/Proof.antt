@@ -11,6 +11,7 @@ use Rattle.octets.proofs.Search.{every_true, every-false}
 use Rattle.pin_table.proofs.Rules.{no, yes}
 use Rattle.pin_distinct.specs.Hashes.{pin_mark}
 use Rattle.pin_distinct.specs.Pins.{pin_again, pins_distinct}
+use Rattle.pin_distinct.proofs.Hashing.{used-formed}
 use Rattle.pin_distinct.proofs.Seen.{none_seen, passed_over, passed-marked}
 use Rattle.pin_distinct.proofs.Doubles.{PinsSeen, pin-free, pin-unseen}
 use Rattle.pin_distinct.proofs.distinct.pins_distinct.Statement.{statement}
@@ -51,7 +52,7 @@ pin-mark-requires c κs =
     let o = c.before.before.before.before.before.before.before in
     let slot = c.before.before.name-slot.ensures in
     let used = ap is_used (sym slot.0) ∙ yes c.before.is-used.ensures c.if1.false in
-    (search rules, ap name_formed slot.0 ∙ o.requires.1 _ c.before.before.before.loop-test.true used)
+    (search rules, ap name_formed slot.0 ∙ used-formed o.args.area.now _ o.requires.1 c.before.before.before.loop-test.true used)
 
 add-requires : tie.Need-add-requires invariant-loop decreases-loop
 add-requires c κs = search rules

@@ -24,12 +24,6 @@ initial-requires c κs = search rules
 count-requires : tie.Need-count-requires
 count-requires c κs = search rules
 
-last-requires : tie.Need-last-requires
-last-requires c κs = search rules
-
-count-requires-2 : tie.Need-count-requires-2
-count-requires-2 c κs = search rules
-
 end-requires : tie.Need-end-requires
 end-requires c κs = search rules
 
@@ -39,33 +33,25 @@ enum_told c = search rules
 enum-known-end : tie.Need-enum-known-end
 enum-known-end c = search rules
 
-count-requires-3 : tie.Need-count-requires-3
-count-requires-3 c κs = search rules
+count-requires-2 : tie.Need-count-requires-2
+count-requires-2 c κs = search rules
 
 minutes-between-requires : tie.Need-minutes-between-requires
 minutes-between-requires c κs = search rules
 
 returns : tie.Need-returns
 returns c =
-    let s = c.before.before.before.before.before.before.before.before.before.before in
-    let t = decode s.args.area.now in
-    said-without-end s.args.clock.0 t.keys _ _ _ (get_or t.names s.args.n.0 none) s.requires.2
-    (c.before.before.before.before.before.before.before.floor.ensures ∙ ap (λ (k : ℕ). floor_at (get_or t.keys k none)) c.before.before.before.before.before.before.before.before.key_of.ensures.1)
-    (c.before.before.before.before.before.count.ensures ∙ c.before.before.before.before.before.before.initial.ensures)
-    (c.before.before.before.count2.ensures ∙ c.before.before.before.before.last.ensures)
+    said-without-end c.before.before.before.before.before.before.before.before.args.clock.0 (decode c.before.before.before.before.before.before.before.before.args.area.now).keys _ _ (get_or (decode c.before.before.before.before.before.before.before.before.args.area.now).names c.before.before.before.before.before.before.before.before.args.n.0 none) c.before.before.before.before.before.before.before.before.requires.2
+    (c.before.before.before.before.before.floor.ensures ∙ ap (λ (k : ℕ). floor_at (get_or (decode c.before.before.before.before.before.before.before.before.args.area.now).keys k none)) c.before.before.before.before.before.before.key_of.ensures.1)
+    (c.before.before.before.count.ensures ∙ c.before.before.before.before.initial.ensures)
     (sym c.enum_told.given.1 ∙ c.before.before.end.ensures)
 
 returns-2 : tie.Need-returns-2
 returns-2 c =
-    let s = c.before.before.before.before.before.before.before.before.before.before.before.before.before in
-    let t = decode s.args.area.now in
-    let end = c.before.before.before.end2.given.0.0 in
-    answer-with-end _ _ end.0 _ s.args.clock.0 c.before.count3.ensures
-    (difference-kept end.0 s.args.clock.0 (omega arith) (omega arith) _ c.minutes-between.ensures)
-    ∙ said-with-end s.args.clock.0 t.keys _ _ _ (get_or t.names s.args.n.0 none) end s.requires.2
-    (c.before.before.before.before.before.before.before.before.before.before.floor.ensures ∙ ap (λ (k : ℕ). floor_at (get_or t.keys k none)) c.before.before.before.before.before.before.before.before.before.before.before.key_of.ensures.1)
-    (c.before.before.before.before.before.before.before.before.count.ensures ∙ c.before.before.before.before.before.before.before.before.before.initial.ensures)
-    (c.before.before.before.before.before.before.count2.ensures ∙ c.before.before.before.before.before.before.before.last.ensures)
+    answer-with-end _ _ c.before.before.before.end2.given.0.0.0 c.before.before.before.before.before.before.before.before.before.before.before.args.clock.0 c.before.count2.ensures (difference-kept c.before.before.before.end2.given.0.0.0 c.before.before.before.before.before.before.before.before.before.before.before.args.clock.0 (omega arith) (omega arith) _ c.minutes-between.ensures)
+    ∙ said-with-end c.before.before.before.before.before.before.before.before.before.before.before.args.clock.0 (decode c.before.before.before.before.before.before.before.before.before.before.before.args.area.now).keys _ _ (get_or (decode c.before.before.before.before.before.before.before.before.before.before.before.args.area.now).names c.before.before.before.before.before.before.before.before.before.before.before.args.n.0 none) c.before.before.before.end2.given.0.0 c.before.before.before.before.before.before.before.before.before.before.before.requires.2
+    (c.before.before.before.before.before.before.before.before.floor.ensures ∙ ap (λ (k : ℕ). floor_at (get_or (decode c.before.before.before.before.before.before.before.before.before.before.before.args.area.now).keys k none)) c.before.before.before.before.before.before.before.before.before.key_of.ensures.1)
+    (c.before.before.before.before.before.before.count.ensures ∙ c.before.before.before.before.before.before.before.initial.ensures)
     (sym c.before.before.before.end2.given.1 ∙ c.before.before.before.before.before.end.ensures)
 
 pub inspect-slot-spec : {M : Type 1} → statement M
@@ -76,12 +62,10 @@ inspect-slot-spec =
     floor-requires
     initial-requires
     count-requires
-    last-requires
-    count-requires-2
     end-requires
     enum_told
     enum-known-end
-    count-requires-3
+    count-requires-2
     minutes-between-requires
     returns
     returns-2)

@@ -1,4 +1,4 @@
--- Six pieces, each behind the one before it, are the bytes of the slot.
+-- Five pieces, each behind the one before it, are the bytes of the slot.
 use mathlib.Core.Path.{refl, ap, ◌∙◌}
 use mathlib.Core.List.{[], ◌∷◌}
 use Prim.Native.Nat.{◌-◌, ◌%◌}
@@ -39,9 +39,6 @@ put-u32-requires c κs = search rules
 put-zeros-requires : tie.Need-put-zeros-requires
 put-zeros-requires c κs = search rules
 
-put-u32-requires-2 : tie.Need-put-u32-requires-2
-put-u32-requires-2 c κs = search rules
-
 put-part-requires-2 : tie.Need-put-part-requires-2
 put-part-requires-2 c κs = search rules
 
@@ -57,23 +54,19 @@ same_length c = search rules
 returns : tie.Need-returns
 returns c =
     let o = c.before.before.before.before.before.before in
-    let m = o.before.before.before.before in
-    let p = m.before.before.before.before in
+    let p = o.before.before.before.before in
     let q = p.before.before.before.before in
     let r = q.before.before.before.before.before in
     let s = r.before.before.before.before.before in
     let k = s.args.k.0 in
     let name = s.args.name.now in
     let clock = s.args.clock.0 in
-    let four = big_endian-length 4 clock in
-    let minutes = ap (big_endian 4) q.before.before.count.ensures in
     let w₁ = first (1 ∷ (k % 256 ∷ (length name % 256 ∷ (0 ∷ [])))) refl r.put-part.ensures in
-    let w₂ = step (big_endian 4 clock) four w₁ (omega arith) (q.put-u32.ensures.0, q.put-u32.ensures.1 ∙ ap (put _ _) minutes) in
-    let w₃ = step (replicate 4 0) refl w₂ (omega arith) p.put-zeros.ensures in
-    let w₄ = step (big_endian 4 clock) four w₃ (omega arith) (m.put-u322.ensures.0, m.put-u322.ensures.1 ∙ ap (put _ _) minutes) in
-    let w₅ = step name refl w₄ (omega arith) o.put-part2.ensures in
-    let w₆ = step (replicate (256 - length name) 0) (length-replicate (256 - length name) 0) w₅ (omega arith) c.before.before.put-zeros2.ensures in
-    name-stored s.requires.0 s.args.n.0 k clock name s.requires.1 s.requires.2 s.requires.3 s.requires.4 s.requires.5 (omega arith) w₆.bytes
+    let w₂ = step (big_endian 4 clock) (big_endian-length 4 clock) w₁ (omega arith) (q.put-u32.ensures.0, q.put-u32.ensures.1 ∙ ap (put _ _) (ap (big_endian 4) q.before.count.ensures)) in
+    let w₃ = step (replicate 8 0) refl w₂ (omega arith) p.put-zeros.ensures in
+    let w₄ = step name refl w₃ (omega arith) o.put-part2.ensures in
+    let w₅ = step (replicate (256 - length name) 0) (length-replicate (256 - length name) 0) w₄ (omega arith) c.before.before.put-zeros2.ensures in
+    name-stored s.requires.0 s.args.n.0 k clock name s.requires.1 s.requires.2 s.requires.3 s.requires.4 s.requires.5 (omega arith) w₅.bytes
 
 pub store-name-spec : {M : Type 1} → statement M
 store-name-spec =
@@ -88,7 +81,6 @@ store-name-spec =
     count-requires
     put-u32-requires
     put-zeros-requires
-    put-u32-requires-2
     put-part-requires-2
     sub-put-zeros
     put-zeros-requires-2

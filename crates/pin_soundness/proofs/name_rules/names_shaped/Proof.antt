@@ -13,10 +13,10 @@ use Rattle.pin_soundness.proofs.name_rules.names_shaped.Statement.{statement}
 use Rattle.pin_soundness.proofs.name_rules.names_shaped.Tie as tie
 
 abbrev invariant-loop : tie.invariant-loop
-invariant-loop area old latest n₀ n = (n ≤ 128) × ((m : ℕ) → m < n → name_shaped old (latest_in area) (name_slot area m) ≡ true)
+invariant-loop area latest n₀ n = (n ≤ 128) × ((m : ℕ) → m < n → name_shaped (latest_in area) (name_slot area m) ≡ true)
 
 abbrev decreases-loop : tie.decreases-loop
-decreases-loop area old latest n₀ n = 128 - n
+decreases-loop area latest n₀ n = 128 - n
 
 latest-requires : tie.Need-latest-requires invariant-loop decreases-loop
 latest-requires c κs = search rules
@@ -32,7 +32,7 @@ name-shaped-requires c κs = search rules
 
 returns : tie.Need-returns invariant-loop decreases-loop
 unfolding names_shaped
-returns c = sym (every-false _ _ _ c.before.before.before.loop-test.true (sym (ap₂ (name_shaped _) c.before.before.before.before.before.latest.ensures c.before.before.name-slot.ensures.0) ∙ no c.before.name-shaped.ensures c.if1.true))
+returns c = sym (every-false _ _ _ c.before.before.before.loop-test.true (sym (ap₂ name_shaped c.before.before.before.before.before.latest.ensures c.before.before.name-slot.ensures.0) ∙ no c.before.name-shaped.ensures c.if1.true))
 
 add-n : tie.Need-overflow-add-n invariant-loop decreases-loop
 add-n c = search rules
@@ -41,7 +41,7 @@ loop-less : tie.Need-loop-smaller invariant-loop decreases-loop
 loop-less c = search rules
 
 loop-again : tie.Need-loop-preserved invariant-loop decreases-loop
-loop-again c = (omega arith, below_more _ _ c.before.before.before.before.loop.invariant.1 (sym (ap₂ (name_shaped _) c.before.before.before.before.before.latest.ensures c.before.before.name-slot.ensures.0) ∙ yes c.before.name-shaped.ensures c.if1.false))
+loop-again c = (omega arith, below_more _ _ c.before.before.before.before.loop.invariant.1 (sym (ap₂ name_shaped c.before.before.before.before.before.latest.ensures c.before.before.name-slot.ensures.0) ∙ yes c.before.name-shaped.ensures c.if1.false))
 
 returns-2 : tie.Need-returns-2 invariant-loop decreases-loop
 unfolding names_shaped

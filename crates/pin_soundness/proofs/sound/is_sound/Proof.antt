@@ -2,13 +2,13 @@
 use mathlib.Core.Path.{sym}
 use borrow.Author.Rules.{rules}
 use borrow.Author.Tests.{ne_eqb}
-use Rattle.pin_model.specs.Sound.{sound_in}
+use Rattle.pin_model.specs.Sound.{sound}
 use Rattle.pin_soundness.proofs.Rules.{zeros-are-sound}
 use Rattle.pin_soundness.proofs.sound.is_sound.Statement.{statement}
 use Rattle.pin_soundness.proofs.sound.is_sound.Tie as tie
 
 returns : tie.Need-returns
-unfolding sound_in
+unfolding sound
 returns c = sym (rw (ne_eqb _ _ c.if1.true))
 
 is-empty-requires : tie.Need-is-empty-requires

@@ -2,7 +2,6 @@
 use mathlib.Core.Path.{sym, ◌∙◌}
 use borrow.Author.Rules.{rules}
 use Rattle.pin_table.proofs.Rules.{no, yes}
-use Rattle.pin_distinct.proofs.Hashing.{shaped-formed}
 use Rattle.pin_soundness.proofs.sound.names_sound.Statement.{statement}
 use Rattle.pin_soundness.proofs.sound.names_sound.Tie as tie
 
@@ -13,7 +12,7 @@ returns : tie.Need-returns
 returns c = sym (rw (no c.before.names-shaped.ensures c.if1.true))
 
 names-distinct-requires : tie.Need-names-distinct-requires
-names-distinct-requires c κs = (search rules, shaped-formed _ _ (yes c.before.names-shaped.ensures c.if1.false))
+names-distinct-requires c κs = (search rules, yes c.before.names-shaped.ensures c.if1.false)
 
 returns-2 : tie.Need-returns-2
 returns-2 c = sym (rw (yes c.before.before.before.names-shaped.ensures c.before.before.if1.false, no c.before.names-distinct.ensures c.if2.true))

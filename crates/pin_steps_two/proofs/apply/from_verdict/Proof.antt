@@ -7,7 +7,7 @@ use Rattle.pin_model.specs.JudgeTwo.{no_room_each}
 use Rattle.pin_records.proofs.HeldSlots.{holds-decode, holds-stored}
 use Rattle.pin_refusals_two.specs.Parts.{tacks_by}
 use Rattle.pin_steps_two.proofs.ShownTacks.{contradicted-same}
-use Rattle.pin_steps_two.proofs.Settled.{judged-contradicted, judged-passed, learned-from, dropped-begun}
+use Rattle.pin_steps_two.proofs.Settled.{judged-contradicted, judged-passed, learned-from, dropped-settled}
 use Rattle.pin_steps_two.proofs.apply.from_verdict.Statement.{statement}
 use Rattle.pin_steps_two.proofs.apply.from_verdict.Tie as tie
 
@@ -33,7 +33,7 @@ learn-each-requires : tie.Need-learn-each-requires
 learn-each-requires c κs =
     let s = c.before.before.before.before.before.before.before.before.before.before.before.before.before.before in
     let h = c.before.before.before.remove-records.ensures in
-    (holds-stored h, dropped-begun _ h s.requires.1, s.requires.2, s.requires.3)
+    (holds-stored h, dropped-settled s.args.name.now s.requires.3 _ h s.requires.1, s.requires.2, s.requires.3)
 
 same-length-2 : tie.Need-same-length-2
 same-length-2 c = search rules

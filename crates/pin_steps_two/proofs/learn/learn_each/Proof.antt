@@ -2,7 +2,7 @@
 use borrow.Author.Rules.{rules}
 use Rattle.pin_model.specs.Layout.{decode}
 use Rattle.pin_records.proofs.HeldSlots.{holds-stored}
-use Rattle.pin_steps_two.proofs.OwnPins.{learned-begun, learned-both}
+use Rattle.pin_steps_two.proofs.OwnPins.{learned-settled, learned-both}
 use Rattle.pin_steps_two.proofs.learn.learn_each.Statement.{statement}
 use Rattle.pin_steps_two.proofs.learn.learn_each.Tie as tie
 
@@ -13,7 +13,7 @@ learn-own-requires-2 : tie.Need-learn-own-requires-2
 learn-own-requires-2 c κs =
     let s = c.before.before.before.before.before.before.before.before.before in
     let h = c.before.before.before.learn-own.ensures.1 in
-    let settled = learned-begun s.args.name.now _ s.args.first.now h s.requires.1 in
+    let settled = learned-settled s.args.name.now _ s.args.first.now h s.requires.3 s.requires.1 in
     (holds-stored h, settled, s.requires.2.of_second, s.requires.3)
 
 same_length : tie.Need-same-length

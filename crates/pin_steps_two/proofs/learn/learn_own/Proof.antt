@@ -5,9 +5,7 @@ use borrow.Author.Tests.{not-true, not-false}
 use Rattle.pin_model.specs.Layout.{decode}
 use Rattle.pin_steps.proofs.Tacks.{key-length}
 use Rattle.pin_model.proofs.TackShown.{whole_length}
-use Rattle.pin_steps.proofs.OwnPin.{pin_at, pin-absent}
-use Rattle.pin_steps.proofs.LongerPins.{extended-pin}
-use Rattle.pin_steps_two.proofs.OwnPins.{own-begun, learned-none, learned-disabled, learned-extended, learned-made}
+use Rattle.pin_steps_two.proofs.OwnPins.{pin_at, pin-absent, clock-limit, own-begun, own-extended, learned-none, learned-disabled, learned-extended, learned-made}
 use Rattle.pin_steps_two.proofs.learn.learn_own.Statement.{statement}
 use Rattle.pin_steps_two.proofs.learn.learn_own.Tie as tie
 
@@ -68,7 +66,7 @@ extend-at-requires c κs =
       s.requires.0,
       x.below,
       x.in_use,
-      s.requires.1.in_limit,
+      clock-limit s.requires.1,
       own-begun s.args.name.now s.args.clock.0 s.args.tack.now s.requires.0 x s.requires.1,
     )
 
@@ -82,7 +80,7 @@ returns-4 c =
     let x = pin_at s.args.name.now f.before.before.before.public-key.ensures _ s.requires.0.fits.name_slots _ (sym f.n.given.1 ∙ f.before.before.find-pin.ensures) in
     learned-extended s.args.name.now s.args.clock.0 (decode s.args.area.now) _ s.args.enabled (not-false _ c.before.before.before.before.before.before.before.before.before.before.if2.false) s.args.tack.now
     (whole_length _ s.requires.2 c.before.before.before.before.before.before.before.before.before.before.before.if1.false) x.recorded
-    (extended-pin s.args.name.now s.args.tack.now s.args.clock.0 s.requires.0 x c.before.before.extend-at.ensures)
+    (own-extended s.args.name.now s.args.clock.0 s.args.tack.now s.requires.0 x c.before.before.extend-at.ensures)
 
 pub learn-own-spec : {M : Type 1} → statement M
 learn-own-spec =

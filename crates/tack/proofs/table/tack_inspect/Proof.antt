@@ -35,7 +35,7 @@ returns c = ap inspection_of (ap inspection_answer (sym c.before.floor.given.1) 
 
 returns-2 : tie.Need-returns-2
 returns-2 c =
-    inspection-ended _ _ _ _ c.before.floor2.given.0.1.1.1.1.0 _ (record { sfits = c.known-told2.given.1.1.1.1.0.1 }) refl
+    inspection-ended _ _ _ c.before.floor2.given.0.1.1.1.0 _ (record { sfits = c.known-told2.given.1.1.1.0.1 }) refl
     (ap inspection_answer (sym c.before.floor2.given.1) ∙ c.before.before.before.inspect.ensures)
 
 returns-3 : tie.Need-returns-3

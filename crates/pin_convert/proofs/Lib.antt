@@ -1,3 +1,0 @@
-pub mod SlotLast
-pub mod ConvertedSlots
-pub mod Conversions
