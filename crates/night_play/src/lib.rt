@@ -1,4 +1,5 @@
 // One turn of a replay: the call in front of the bytes is read and judged, and its line is written.
+#![tactic(auto)]
 ghost use Rattle.std.specs.Prelude.{◌≡◌, true, ◌+◌, ◌≤◌, ◌<◌, ◌/◌, ◌%◌, eqb, length};
 ghost use Rattle.octets.specs.Octets.{part};
 ghost use Rattle.pin_model.specs.Sound.{sound};
@@ -16,7 +17,7 @@ use recorded_call::reader::Taken;
 use tally::Tally;
 
 // What a turn did: the bytes that a call took, where its line ends, and its number; or nothing, where the call is cut off or bad.
-#[derive(Drop)]
+#[derive(Clone, Copy)]
 pub enum Turn {
     Line {
         taken: usize,
@@ -167,7 +168,7 @@ pub fn play_counted(
 }
 
 // A turn, and the tally after it.
-#[derive(Drop)]
+#[derive(Clone, Copy)]
 pub struct Played {
     pub turn: Turn,
     pub tally: Tally,

@@ -1,2 +1,3 @@
 // The report on a night of recorded calls, as text.
+#![tactic(auto)]
 pub mod text;

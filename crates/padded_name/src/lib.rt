@@ -1,6 +1,7 @@
 // A name padded with zeros to 256 bytes, as a pin table keeps it. Up to 63 bytes no label is too long, so each byte and its
 // neighbour say whether the name is well-formed: that goes by vectors, over a fixed number of bytes. Longer names go from dot to
 // dot.
+#![tactic(auto)]
 ghost use Rattle.std.specs.Prelude.{◌≡◌, ◌&&◌, ◌+◌, ◌-◌, ◌<◌, length, get_or};
 ghost use Rattle.octets.specs.Octets.{part, all_zero};
 ghost use Rattle.octets.specs.Search.{every};

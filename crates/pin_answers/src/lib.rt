@@ -1,10 +1,11 @@
 // What the store answers: an enum for each kind of call, and the papers' numbers and alerts for every case.
+#![tactic(auto)]
 ghost use Rattle.std.specs.Prelude.{◌≡◌};
 ghost use Rattle.tack_extension.specs.Answers.{alert_of, alert_of_two, bad_certificate};
 ghost use Rattle.pin_answers.specs.Numbers.{refusal_number, verdict_number, judgement_number, deletion_number, starting_number};
 
 // The refusals, by their numbers. 17 is edition one's alone, 24 edition two's.
-#[derive(Drop)]
+#[derive(Clone, Copy)]
 pub enum Refusal {
     AreaLength,
     Damaged,
@@ -25,33 +26,33 @@ pub enum Refusal {
 }
 
 // What a test of a call's input gives.
-#[derive(Drop)]
+#[derive(Clone, Copy)]
 pub enum Checked {
     Passed,
     Refused(Refusal),
 }
 
-#[derive(Drop)]
+#[derive(Clone, Copy)]
 pub enum Verdict {
     Unpinned,
     Confirmed,
     Contradicted,
 }
 
-#[derive(Drop)]
+#[derive(Clone, Copy)]
 pub enum Judgement {
     Judged { verdict: Verdict, no_room: bool },
     Refused(Refusal),
 }
 
-#[derive(Drop)]
+#[derive(Clone, Copy)]
 pub enum Deletion {
     Deleted,
     NotRecorded,
     Refused(Refusal),
 }
 
-#[derive(Drop)]
+#[derive(Clone, Copy)]
 pub enum Inspection {
     WithoutEnd {
         floor: u8,
@@ -67,7 +68,7 @@ pub enum Inspection {
     Refused(Refusal),
 }
 
-#[derive(Drop)]
+#[derive(Clone, Copy)]
 pub enum Starting {
     Started,
     Refused(Refusal),

@@ -11,13 +11,13 @@ use crate::read;
 use pin_table::slots;
 use pin_table::slots::{KEY_AT, KEY_SLOTS, KeySlot, NAME_AT, NAME_SLOTS, NameSlot};
 
-#[derive(Drop)]
+#[derive(Clone, Copy)]
 pub enum FoundKey {
     At(KeySlot),
     Nothing,
 }
 
-#[derive(Drop)]
+#[derive(Clone, Copy)]
 pub enum FoundName {
     At(NameSlot),
     Nothing,

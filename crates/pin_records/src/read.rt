@@ -14,7 +14,7 @@ use pin_table::minutes::Minutes;
 use pin_table::slots;
 use pin_table::slots::{END_PRESENT_AT, FLOOR_AT, KeySlot, NameSlot};
 
-#[derive(Drop)]
+#[derive(Clone, Copy)]
 pub enum PinEnd {
     At(Minutes),
     Absent,

@@ -4,11 +4,11 @@ ghost use Rattle.octets.specs.Octets.{part, number};
 ghost use Rattle.pin_model.specs.Table.{thirty_days, clock_limit};
 ghost use Rattle.pin_table.specs.Clocks.{clock_of};
 
-#[derive(Drop)]
+#[derive(Clone, Copy)]
 pub struct Minutes(u32);
 
 // A caller's clock: its minutes, unless it is above the limit.
-#[derive(Drop)]
+#[derive(Clone, Copy)]
 pub enum Clock {
     At(Minutes),
     AboveLimit,

@@ -47,10 +47,10 @@ pub const KEY_SLOTS_AT: usize = 8;
 pub const NAME_SLOTS_AT: usize = KEY_SLOTS_AT + KEY_SLOTS * KEY_SLOT_LENGTH;
 
 // Slot numbers: two kinds, so that a key slot can't index the names.
-#[derive(Drop)]
+#[derive(Clone, Copy)]
 pub struct KeySlot(pub usize);
 
-#[derive(Drop)]
+#[derive(Clone, Copy)]
 pub struct NameSlot(pub usize);
 
 // A byte as an index, so that callers prove no cast.

@@ -3,7 +3,7 @@ ghost use Rattle.std.specs.Prelude.{◌≡◌, ◌≤◌, length, drop};
 ghost use Rattle.recorded_call.specs.RecordedCall.{field, answers_field, tagged};
 ghost use Rattle.recorded_call.specs.FieldEnds.{field_end};
 
-#[derive(Drop)]
+#[derive(Clone, Copy)]
 pub enum Field {
     Ends(usize),
     CutOff,

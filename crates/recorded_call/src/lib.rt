@@ -1,3 +1,4 @@
 // Recorded calls: one read from the front of a night's bytes.
+#![tactic(auto)]
 mod field;
 pub mod reader;

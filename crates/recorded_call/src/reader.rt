@@ -9,7 +9,7 @@ use crate::field::Field;
 
 // What stands in front of the bytes of a night: a call, by where its name ends and by the place behind it; a call that is cut
 // off; or what no further bytes make a call.
-#[derive(Drop)]
+#[derive(Clone, Copy)]
 pub enum Taken {
     Call {
         name_end: usize,

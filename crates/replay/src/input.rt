@@ -6,7 +6,7 @@ ghost use Rattle.replay.specs.Progress.{FilledWithin};
 use libc::STDIN_FILENO;
 
 // What a read gave: so many bytes now stand at the start; the input has ended; or it failed.
-#[derive(Drop)]
+#[derive(Clone, Copy)]
 pub enum Filled {
     To(usize),
     Ended,

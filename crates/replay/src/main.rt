@@ -1,12 +1,13 @@
 // Replays a night: recorded calls of any number from standard input, the report to standard output as it goes. With the argument
 // `tally` the tally of the numbers goes to standard error at the end.
+#![tactic(auto)]
 mod input;
 mod turns;
 
 use libc::STDERR_FILENO;
 use tally::Tally;
 
-#[derive(Drop)]
+#[derive(Clone, Copy)]
 enum Asked {
     Report,
     Tally,

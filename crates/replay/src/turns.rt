@@ -15,7 +15,7 @@ const LAST_LINE_AT: usize = 65536 - 31;
 
 // How far a replay has come: the bytes that are read and not yet played, the next call's index, the end of the text that is not
 // yet written, the tally, and whether there is more to do.
-#[derive(Drop)]
+#[derive(Clone, Copy)]
 struct Progress {
     from: usize,
     to: usize,

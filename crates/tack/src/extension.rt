@@ -12,7 +12,7 @@ use tack_extension::reader::Reading;
 
 // tack_reading
 #[repr(C)]
-#[derive(Drop)]
+#[derive(Clone, Copy)]
 pub struct ReadingAnswer {
     pub number: u8,
     pub alert: u8,
@@ -21,7 +21,7 @@ pub struct ReadingAnswer {
 
 // tack_span
 #[repr(C)]
-#[derive(Drop)]
+#[derive(Clone, Copy)]
 pub struct Span {
     pub start: usize,
     pub length: usize,
@@ -29,7 +29,7 @@ pub struct Span {
 
 // tack_writing
 #[repr(C)]
-#[derive(Drop)]
+#[derive(Clone, Copy)]
 pub struct WritingAnswer {
     pub number: u8,
     pub alert: u8,

@@ -10,7 +10,7 @@ use pin_model::Checks;
 
 // tack_judgement
 #[repr(C)]
-#[derive(Drop)]
+#[derive(Clone, Copy)]
 pub struct JudgementAnswer {
     pub number: u8,
     pub alert: u8,
@@ -19,7 +19,7 @@ pub struct JudgementAnswer {
 
 // tack_outcome
 #[repr(C)]
-#[derive(Drop)]
+#[derive(Clone, Copy)]
 pub struct OutcomeAnswer {
     pub number: u8,
     pub alert: u8,
@@ -27,7 +27,7 @@ pub struct OutcomeAnswer {
 
 // tack_inspection
 #[repr(C)]
-#[derive(Drop)]
+#[derive(Clone, Copy)]
 pub struct InspectionAnswer {
     pub number: u8,
     pub alert: u8,

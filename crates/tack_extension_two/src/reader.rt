@@ -9,14 +9,14 @@ use crate::allowed;
 use tack_extension::reader::{LastByte, Reached};
 
 // What the reader answers: 9 with the flags, or 16.
-#[derive(Drop)]
+#[derive(Clone, Copy)]
 pub enum Reading {
     WellFormed { flags: u8 },
     Malformed,
 }
 
 // Where the tacks end, and the flags.
-#[derive(Drop)]
+#[derive(Clone, Copy)]
 enum Layout {
     Ends { tacks: usize, flags: u8 },
     Refused,

@@ -1,8 +1,9 @@
 // The running tally of a night: how often each number was answered.
+#![tactic(auto)]
 ghost use Rattle.std.specs.Prelude.{◌≡◌, [], get_or};
 ghost use Rattle.tally.specs.Tally.{raised, counted, tallied};
 
-#[derive(Drop)]
+#[derive(Clone, Copy)]
 pub struct Tally {
     pub counts: [u32; 32],
 }

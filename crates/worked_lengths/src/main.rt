@@ -1,5 +1,6 @@
 // The worked lengths of document 01: extensions of 4, 132, 170 and 1,194 bytes, names at their limits. A line each, the answer
 // behind it; the stored output is the paper's.
+#![tactic(auto)]
 use libc::STDOUT_FILENO;
 use tack_extension::answers::Writing;
 use tack_extension::reader;

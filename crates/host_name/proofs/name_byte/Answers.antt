@@ -1,0 +1,6 @@
+-- The tests are those of the definition.
+use borrow.Author.Rules.{rules}
+use Rattle.host_name.proofs.name_byte.Goals as goal
+
+pub returns : goal.returns
+returns c = rw c.letter_or_digit.ensures

@@ -1,0 +1,37 @@
+-- What is read at the call's places is the call.
+use mathlib.Core.Path.{refl, ap, ◌∙◌}
+use Prim.Native.Nat.{◌+◌}
+use Rattle.octets.specs.Octets.{part}
+use Rattle.pin_model.specs.Connection.{Connection}
+use Rattle.pin_model.specs.Calls.{judge, answered, area_left}
+use Rattle.night_play.proofs.OneTurn.{call-read, part-between}
+use borrow.Author.Rules.{rules}
+use Rattle.night_play.proofs.judge_call.Goals as goal
+
+-- TODO need slice-bounds-judge-sound-area-start
+-- part-judge-sound-area-start : tie.Need-slice-bounds-judge-sound-area-start
+-- part-judge-sound-area-start c = search rules
+
+-- TODO need slice-bounds-judge-sound-area-end
+-- part-judge-sound-area-end : tie.Need-slice-bounds-judge-sound-area-end
+-- part-judge-sound-area-end c = search rules
+
+-- TODO need slice-bounds-judge-sound-area-start-2
+-- part-judge-sound-area-start-2 : tie.Need-slice-bounds-judge-sound-area-start-2
+-- part-judge-sound-area-start-2 c = search rules
+
+-- TODO need slice-bounds-judge-sound-area-end-2
+-- part-judge-sound-area-end-2 : tie.Need-slice-bounds-judge-sound-area-end-2
+-- part-judge-sound-area-end-2 c = search rules
+
+pub judge_sound_area-requires : goal.judge_sound_area-requires
+judge_sound_area-requires c = c.requires.1
+
+pub returns : goal.returns
+unfolding part
+returns c =
+    let a = c.args in
+    let same = call-read a.night.now a.name-end a.extension-came a.after c.u32_at.ensures refl
+    c.extension_at.ensures (part-between a.night.now (a.name-end + 8) 32) c.checks_at.ensures in
+    let e = c.judge_sound_area.ensures in
+    (e.0 ∙ ap (λ (k : Connection). answered (judge k) a.area.now) same, (e.1.0 ∙ ap (λ (k : Connection). area_left (judge k) a.area.now) same, e.1.1))

@@ -1,0 +1,16 @@
+-- The loop's invariant: the first i bytes of p are put in, and the length is as it was.
+use mathlib.Core.Path.{◌≡◌, refl, sym, ap, ◌∙◌}
+use Prim.Native.Nat.{◌-◌, ◌≤◌}
+use native.Mathlib.Omega.{arith}
+use lib.ListN.{length, take, length-set}
+use lib.Seq.{take_all}
+use borrow.Author.Rules.{rules}
+use Rattle.octets.specs.Octets.{put}
+use Rattle.octets.proofs.Parts.{put-none, copy_step}
+use Rattle.octets.proofs.put_part.Given as goal
+
+abbrev pub invariant-loop-i : goal.invariant-loop-i
+invariant-loop-i l = (l.i ≤ length l.p) × (length l.s ≡ length l.initial.s) × (l.s ≡ put l.initial.s l.at (take l.i l.p))
+
+abbrev pub decreases-loop-i : goal.decreases-loop-i
+decreases-loop-i l = length l.p - l.i

@@ -1,0 +1,15 @@
+-- The loop's invariant: the first i bytes agree.
+use mathlib.Core.Path.{◌≡◌, sym}
+use Prim.Native.Nat.{ℕ, ◌+◌, ◌-◌, ◌≤◌, ◌<◌}
+use native.Mathlib.Omega.{arith}
+use lib.ListN.{length, get_or}
+use borrow.Author.Count.{below_more, below_none}
+use borrow.Author.Rules.{rules}
+use Rattle.octets.proofs.Equal.{same-part, differ-part}
+use Rattle.octets.proofs.same_few_at.Given as goal
+
+abbrev pub invariant-loop-i : goal.invariant-loop-i
+invariant-loop-i l = (l.i ≤ length l.p) × ((j : ℕ) → j < l.i → get_or l.s (l.at + j) 0 ≡ get_or l.p j 0)
+
+abbrev pub decreases-loop-i : goal.decreases-loop-i
+decreases-loop-i l = length l.p - l.i

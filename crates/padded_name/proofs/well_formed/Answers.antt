@@ -1,0 +1,29 @@
+-- By the name's length.
+use mathlib.Core.Path.{sym, ap, ◌∙◌}
+use native.Mathlib.Omega.{arith}
+use borrow.Author.Tests.{not-true, not-false}
+use borrow.Author.Rules.{rules}
+use Rattle.octets.proofs.Parts.{part-lent}
+use Rattle.host_name.specs.Name.{well_formed}
+use Rattle.padded_name.proofs.PaddedNames.{none-formed}
+use Rattle.padded_name.proofs.well_formed.Goals as goal
+
+-- TODO need slice-bounds-well-formed-start
+-- part-well-formed-start : tie.Need-slice-bounds-well-formed-start
+-- part-well-formed-start c = search rules
+
+-- TODO need slice-bounds-well-formed-end
+-- part-well-formed-end : tie.Need-slice-bounds-well-formed-end
+-- part-well-formed-end c = search rules
+
+pub returns-then-n-eq0 : goal.returns-then-n-eq0
+returns-then-n-eq0 c = sym (none-formed c.args.padded.now c.args.n _ c.if-n-eq0.true)
+
+pub returns-then-not-well_formed : goal.returns-then-not-well_formed
+returns-then-not-well_formed c =
+    sym (rw (sym (ap well_formed (part-lent c.args.padded.now 0 c.args.n c.args.n (omega arith) (omega arith)).0) ∙ sym c.well_formed-2.ensures ∙ not-true _ c.if-not-well_formed.true))
+
+pub returns : goal.returns
+returns c =
+    c.zeros_at.ensures
+    ∙ sym (rw (sym (ap well_formed (part-lent c.args.padded.now 0 c.args.n c.args.n (omega arith) (omega arith)).0) ∙ sym c.well_formed-2.ensures ∙ not-false _ c.if-not-well_formed.false))

@@ -1,0 +1,37 @@
+use mathlib.Core.Path.{sym, ◌∙◌}
+use mathlib.Core.Bool.{false}
+use mathlib.Core.Logic.{⊎_elim}
+use Prim.Native.Nat.{◌-◌, ◌≤◌}
+use native.Mathlib.Omega.{arith}
+use borrow.Author.Rules.{rules}
+use borrow.Author.Count.{below_more, below_none}
+use Rattle.pin_model.specs.Layout.{decode}
+use Rattle.pin_creation.proofs.RoomFound.{pin_at, Alone, alone-own, alone-other, not_last, is_last}
+use Rattle.pin_creation.proofs.create.last_on_key.Goals as goal
+
+pub loop-m-init : goal.loop-m-init
+loop-m-init c = (omega arith, below_none _)
+
+pub refers_to-requires : goal.refers_to-requires
+refers_to-requires c =
+    (c.requires.0, c.loop-m-test.true, c.key_of-k.ensures.0, (pin_at c.requires.0 c.args.n.0 _ c.requires.2 c.key_of-k.ensures.1).in_use)
+
+pub returns-then-refers_to : goal.returns-then-refers_to
+returns-then-refers_to c =
+    not_last c.requires.0 c.args.n.0 c.key_of-k.result.0 c.requires.2 c.key_of-k.ensures.1 c.loop-m.m c.if-m-own.true
+    (sym c.refers_to.ensures ∙ c.if-refers_to.true)
+
+pub loop-m-preserved : goal.loop-m-preserved
+loop-m-preserved c =
+    let n = c.args.n.0 in
+    let k = c.key_of-k.result.0 in
+    let m = c.loop-m.m in (
+      omega arith,
+      below_more _ _ c.loop-m.invariant.1
+          (⊎_elim (λ w. alone-other c.requires.0 n k m false w.0.taken (sym w.1.ensures ∙ w.2.left))
+          (λ w. alone-own c.requires.0 n k c.requires.1 m w.left) c.if-m-own.branch),
+    )
+
+pub returns : goal.returns
+returns c =
+    is_last c.requires.0 c.args.n.0 c.key_of-k.result.0 c.requires.2 c.key_of-k.ensures.1 c.loop-m.m (omega arith) c.loop-m.invariant.1

@@ -1,0 +1,31 @@
+-- Each refusal is the first that applies; where none does, the steps give the answer.
+use mathlib.Core.Path.{sym, ap, ◌∙◌}
+use borrow.Author.Rules.{rules}
+use Rattle.pin_answers.specs.Numbers.{checked_number}
+use Rattle.pin_judge.proofs.Passing.{passed-in-order, passed-read, tack-came, refused-so, judged-so}
+use Rattle.pin_judge.proofs.judge_at.Goals as goal
+
+-- The steps ask that refusal 14 has passed. This comes before the other needs, so that a program that lacks it is refused here first.
+pub apply_shown-requires : goal.apply_shown-requires
+apply_shown-requires c = (search passed-in-order, search passed-read)
+
+pub refuse-requires : goal.refuse-requires
+refuse-requires c =
+    let a = c.args in (
+      c.requires.1.stored,
+      tack-came a.clock.0 a.name.now a.extension.now a.hash.now a.checks a.area.now _
+          (sym c.check_connection.ensures ∙ ap checked_number c.refusal-1.given.1),
+    )
+
+pub returns-in-Refused : goal.returns-in-Refused
+returns-in-Refused c =
+    let a = c.args in
+    refused-so a.clock.0 a.name.now a.extension.now a.hash.now a.checks a.area.now c.requires.0 c.requires.1 _
+    (sym c.check_connection.ensures ∙ ap checked_number c.refusal-1.given.1)
+    _ _ c.refuse.ensures
+
+pub returns : goal.returns
+returns c =
+    let a = c.args in
+    judged-so a.clock.0 a.name.now a.extension.now a.hash.now a.checks a.area.now c.requires.0 c.requires.1
+    (sym c.check_connection.ensures ∙ ap checked_number c.enum_told-1.given.1) _ _ c.apply_shown.ensures

@@ -1,0 +1,29 @@
+-- The name that is handed on is the folded one, cut at 254 bytes.
+use mathlib.Core.Path.{sym, ap, ◌∙◌}
+use mathlib.Core.List.{List}
+use Prim.Native.Nat.{ℕ}
+use native.Mathlib.Omega.{arith}
+use lib.ListN.{length-take}
+use lib.Seq.{length-take-le}
+use borrow.Author.Rules.{rules}
+use Rattle.host_name.proofs.Folded.{front, room}
+use Rattle.pin_model.specs.Calls.{inspect, answer}
+use Rattle.pin_model.proofs.LongNames.{inspect-handed}
+use Rattle.pin_manage.proofs.inspection.inspect.Goals as goal
+
+pub slice_bounds-folded-end : goal.slice_bounds-folded-end
+slice_bounds-folded-end c = sym (room c.args.name.now c.fold-n.ensures)
+
+pub slice_bounds-inspect_folded-end : goal.slice_bounds-inspect_folded-end
+slice_bounds-inspect_folded-end c =
+    let s = c.args.name.now in
+    let wrote = c.fold-n.ensures in
+    sym (length-take-le _ _ (omega (arith, room s wrote, wrote.0, length-take 254 s)))
+
+pub returns : goal.returns
+returns c =
+    let a = c.args in
+    let its = front a.name.now c.fold-n.ensures in
+    c.inspect_folded.ensures
+    ∙ ap (λ (name : List ℕ). answer (inspect a.second name a.clock) a.area.now) its
+    ∙ (inspect-handed a.second a.name.now a.clock a.area.now).0

@@ -1,0 +1,12 @@
+-- An area of another length is refused; any other becomes zeros but for the edition.
+use borrow.Author.Rules.{rules}
+use Rattle.pin_manage.proofs.Started.{start-refused, started}
+use Rattle.pin_manage.proofs.starting.start.Goals as goal
+
+pub returns-then-area-ne-AREA_LENGTH : goal.returns-then-area-ne-AREA_LENGTH
+returns-then-area-ne-AREA_LENGTH c = start-refused c.args.edition-two c.args.area.now c.if-area-ne-AREA_LENGTH.true
+
+pub returns : goal.returns
+returns c =
+    let a = c.args in
+    started a.edition-two a.area.now c.if-area-ne-AREA_LENGTH.false c.put_zeros.ensures.1

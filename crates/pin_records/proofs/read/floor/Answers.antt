@@ -1,0 +1,7 @@
+-- By the slot's second byte.
+use borrow.Author.Rules.{rules}
+use Rattle.pin_records.proofs.HeldSlots.{held-floor}
+use Rattle.pin_records.proofs.read.floor.Goals as goal
+
+pub returns : goal.returns
+returns c = held-floor c.requires.0 _ c.requires.1 c.key_slot-s.ensures.0

@@ -1,0 +1,15 @@
+-- The loop's invariant: all are correct exactly if the bits left say so of those left.
+use mathlib.Core.Path.{◌≡◌, sym, ◌∙◌}
+use Prim.Native.Nat.{◌≤◌, ◌-◌}
+use native.Mathlib.Omega.{arith}
+use borrow.Author.Rules.{rules}
+use Rattle.tack_extension.specs.Tack.{break_signatures}
+use Rattle.pin_model.specs.Refusals.{all_correct}
+use Rattle.pin_refusals.proofs.BreakBits.{low_bits, bits-start, bit-missing, bit-there, bits-over}
+use Rattle.pin_refusals.proofs.connection.breaks_correct.Given as goal
+
+abbrev pub invariant-loop-i : goal.invariant-loop-i
+invariant-loop-i l = (l.i ≤ l.count) × (all_correct (break_signatures l.breaks) l.bits ≡ low_bits (l.count - l.i) l.left)
+
+abbrev pub decreases-loop-i : goal.decreases-loop-i
+decreases-loop-i l = l.count - l.i

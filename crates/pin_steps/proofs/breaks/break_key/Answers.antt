@@ -1,0 +1,30 @@
+-- The key is found or not: step 3 for this key in each case.
+use mathlib.Core.Path.{sym, ◌∙◌}
+use borrow.Author.Rules.{rules}
+use Rattle.pin_records.proofs.HeldSlots.{holds-stored}
+use Rattle.pin_records.proofs.Found.{key-found-at, key-absent}
+use Rattle.pin_steps.proofs.BrokenKeys.{break-absent, broken-used, broken-unnamed, break-cleared}
+use Rattle.pin_steps.proofs.breaks.break_key.Goals as goal
+
+pub returns-in_default : goal.returns-in_default
+returns-in_default c =
+    break-absent c.args.key.now c.requires.0 (key-absent _ c.requires.0.fits.key_slots _ (sym c.enum_told-1.given.1 ∙ c.find_key.ensures))
+
+pub drop_names-requires : goal.drop_names-requires
+drop_names-requires c =
+    let x = key-found-at _ c.requires.0.fits.key_slots _ _ (sym c.k-1.given.1 ∙ c.find_key.ensures) in
+    (c.requires.0, x.below, x.in_use)
+
+pub clear_key-requires : goal.clear_key-requires
+clear_key-requires c =
+    let x = key-found-at _ c.requires.0.fits.key_slots _ _ (sym c.k-1.given.1 ∙ c.find_key.ensures) in (
+      holds-stored c.drop_names.ensures,
+      x.below,
+      broken-used c.args.key.now c.requires.0 x c.drop_names.ensures,
+      broken-unnamed c.args.key.now c.requires.0 x c.drop_names.ensures,
+    )
+
+pub returns : goal.returns
+returns c =
+    let x = key-found-at _ c.requires.0.fits.key_slots _ _ (sym c.k-1.given.1 ∙ c.find_key.ensures) in
+    break-cleared c.args.key.now c.requires.0 x c.drop_names.ensures c.clear_key.ensures

@@ -1,0 +1,42 @@
+use mathlib.Core.Path.{sym, ◌∙◌}
+use mathlib.Core.Logic.{⊎_elim}
+use Prim.Native.Nat.{◌-◌, ◌≤◌}
+use native.Mathlib.Omega.{arith}
+use borrow.Author.Rules.{rules}
+use Rattle.pin_model.specs.Layout.{decode}
+use Rattle.pin_records.specs.Holds.{Holds}
+use Rattle.pin_records.proofs.HeldSlots.{holds-stored}
+use Rattle.pin_records.proofs.DroppedNames.{dropped, drop-end}
+use Rattle.pin_steps.proofs.DroppedNames.{on_key, key-used, name-stays, name-goes}
+use Rattle.pin_steps.proofs.breaks.drop_names.Goals as goal
+
+pub loop-n-init : goal.loop-n-init
+loop-n-init c = (omega arith, c.requires.0)
+
+pub refers_to-requires : goal.refers_to-requires
+refers_to-requires c =
+    let l = c.loop-n in (
+      holds-stored l.invariant.1,
+      c.loop-n-test.true,
+      c.requires.1,
+      key-used (decode c.args.area.now) c.args.k.0 l.n l.invariant.1 c.requires.2,
+    )
+
+pub clear_name-requires : goal.clear_name-requires
+clear_name-requires c = (holds-stored c.loop-n.invariant.1, c.loop-n-test.true)
+
+pub loop-n-preserved : goal.loop-n-preserved
+loop-n-preserved c =
+    let l = c.loop-n in
+    ⊎_elim
+    (λ w. (omega arith, name-goes (decode c.args.area.now) c.args.k.0 l.n l.invariant.1 w.5 (sym c.refers_to.ensures ∙ w.0.taken) w.2.ensures))
+    (λ w. (omega arith, name-stays (decode c.args.area.now) c.args.k.0 l.n l.invariant.1 w.1 (sym c.refers_to.ensures ∙ w.0.left)))
+    c.if-refers_to.branch
+
+pub shape_of-area : goal.shape_of-area
+shape_of-area c = c.loop-n.invariant.1.long ∙ sym c.requires.0.long
+
+pub returns : goal.returns
+returns c =
+    let l = c.loop-n in
+    drop-end (on_key (decode c.args.area.now).keys c.args.k.0) (decode c.args.area.now) l.n l.invariant.1 c.requires.0.fits.name_slots c.loop-n-test.false

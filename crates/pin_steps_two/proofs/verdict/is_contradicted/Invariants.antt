@@ -1,0 +1,22 @@
+-- The loop's invariant: none of the first n slots contradicts.
+use mathlib.Core.Path.{◌≡◌, sym, ◌∙◌}
+use mathlib.Core.Bool.{false, not, ◌&&◌}
+use mathlib.Core.Option.{none}
+use Prim.Native.Nat.{ℕ, ◌-◌, ◌≤◌, ◌<◌}
+use native.Mathlib.Omega.{arith}
+use lib.ListN.{get_or}
+use borrow.Author.Rules.{rules}
+use borrow.Author.Count.{below_more, below_none}
+use Rattle.pin_model.specs.Layout.{decode}
+use Rattle.pin_model.specs.Fits.{holds}
+use Rattle.pin_model.specs.Judge.{active_of}
+use Rattle.pin_refusals_two.specs.Parts.{both_tacks}
+use Rattle.pin_steps_two.specs.Shown.{shown_for}
+use Rattle.pin_model.proofs.Places.{any_at, any_none}
+use Rattle.pin_steps_two.proofs.verdict.is_contradicted.Given as goal
+
+abbrev pub invariant-loop-n : goal.invariant-loop-n
+invariant-loop-n l = (l.n ≤ 128) × ((j : ℕ) → j < l.n → holds (λ r. active_of l.name l.clock.0 r && not (shown_for (both_tacks l.first l.second) r)) (get_or (decode l.area).names j none) ≡ false)
+
+abbrev pub decreases-loop-n : goal.decreases-loop-n
+decreases-loop-n l = 128 - l.n

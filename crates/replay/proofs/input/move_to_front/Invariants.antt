@@ -1,0 +1,16 @@
+-- The loop's invariant: the first i bytes stand in front, and the length is as it was.
+use mathlib.Core.Path.{◌≡◌, refl, sym, ap, ◌∙◌}
+use Prim.Native.Nat.{◌+◌, ◌-◌, ◌≤◌}
+use native.Mathlib.Omega.{arith}
+use lib.ListN.{length, take, length-set}
+use borrow.Author.Rules.{rules}
+use Rattle.octets.specs.Octets.{part, put}
+use Rattle.octets.proofs.Parts.{put-none}
+use Rattle.replay.proofs.Moves.{move_step, all-taken}
+use Rattle.replay.proofs.input.move_to_front.Given as goal
+
+abbrev pub invariant-loop-i : goal.invariant-loop-i
+invariant-loop-i l = (l.i ≤ l.n) × (l.from + l.n ≤ length l.initial.s) × (length l.s ≡ length l.initial.s) × (l.s ≡ put l.initial.s 0 (take l.i (part l.initial.s l.from l.n)))
+
+abbrev pub decreases-loop-i : goal.decreases-loop-i
+decreases-loop-i l = l.n - l.i

@@ -1,0 +1,10 @@
+-- The run begins with the area of no calls, the empty table of edition one.
+use mathlib.Core.Path.{sym}
+use Rattle.pin_model.proofs.SoundTable.{empty-zeros}
+use Rattle.pin_model.specs.Run.{area_of}
+use borrow.Author.Rules.{rules}
+use Rattle.replay.proofs.turns.replay.Goals as goal
+
+pub run-requires : goal.run-requires
+unfolding area_of
+run-requires c = (sym empty-zeros, sym c.large_buffer-bytes.ensures, sym c.large_buffer-lines.ensures)

@@ -1,0 +1,14 @@
+-- Each case has the number, the alert and the flags of the definition.
+use mathlib.Core.Path.{sym, ap, ◌∙◌}
+use borrow.Author.Rules.{rules}
+use Rattle.tack_extension.specs.Answers.{alert_of, alert_of_two}
+use Rattle.tack.specs.ExtensionTwo.{reading_two_answer}
+use Rattle.tack.proofs.edition_two.tack2_extension_read.Goals as goal
+
+pub returns-in-WellFormed : goal.returns-in-WellFormed
+unfolding reading_two_answer alert_of_two alert_of
+returns-in-WellFormed c = ap reading_two_answer (sym c.flags-1.given.1 ∙ c.read.ensures)
+
+pub returns-in-Malformed : goal.returns-in-Malformed
+unfolding reading_two_answer alert_of_two alert_of
+returns-in-Malformed c = ap reading_two_answer (sym c.enum_told-1.given.1 ∙ c.read.ensures)

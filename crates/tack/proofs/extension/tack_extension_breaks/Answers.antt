@@ -1,0 +1,7 @@
+-- The span is the break signatures', and cuts them out.
+use borrow.Author.Rules.{rules}
+use Rattle.tack.proofs.Spans.{breaks-span}
+use Rattle.tack.proofs.extension.tack_extension_breaks.Goals as goal
+
+pub returns : goal.returns
+returns c = breaks-span c.args.bytes.now c.tack_part-tack.result.now c.breaks_part-breaks.result.now c.span_at.result c.tack_part-tack.ensures c.breaks_part-breaks.ensures c.span_at.ensures

@@ -1,0 +1,14 @@
+-- Each case has the number, the alert and the activation of the definition.
+use mathlib.Core.Path.{sym, ap, ◌∙◌}
+use borrow.Author.Rules.{rules}
+use Rattle.tack_extension.specs.Answers.{alert_of}
+use Rattle.tack.specs.Extension.{reading_answer}
+use Rattle.tack.proofs.extension.tack_extension_read.Goals as goal
+
+pub returns-in-WellFormed : goal.returns-in-WellFormed
+unfolding reading_answer alert_of
+returns-in-WellFormed c = ap reading_answer (sym c.activation-1.given.1 ∙ c.read.ensures)
+
+pub returns-in-Malformed : goal.returns-in-Malformed
+unfolding reading_answer alert_of
+returns-in-Malformed c = ap reading_answer (sym c.enum_told-1.given.1 ∙ c.read.ensures)

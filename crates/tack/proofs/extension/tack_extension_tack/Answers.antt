@@ -1,0 +1,7 @@
+-- The span is the tack's, and cuts it out.
+use borrow.Author.Rules.{rules}
+use Rattle.tack.proofs.Spans.{tack-span}
+use Rattle.tack.proofs.extension.tack_extension_tack.Goals as goal
+
+pub returns : goal.returns
+returns c = tack-span c.args.bytes.now c.tack_part-tack.result.now c.span_at.result c.tack_part-tack.ensures c.span_at.ensures

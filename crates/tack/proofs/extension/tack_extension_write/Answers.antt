@@ -1,0 +1,8 @@
+-- The writer's own contract, with its answer as numbers.
+use mathlib.Core.Path.{ap, ◌∙◌}
+use borrow.Author.Rules.{rules}
+use Rattle.tack.specs.Extension.{writing_answer}
+use Rattle.tack.proofs.extension.tack_extension_write.Goals as goal
+
+pub returns : goal.returns
+returns c = (c.writing_answer.ensures ∙ ap writing_answer c.write.ensures.0, c.write.ensures.1)

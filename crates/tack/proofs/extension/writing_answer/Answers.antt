@@ -1,0 +1,18 @@
+-- Each case has the number, the alert and the count of the definition.
+use mathlib.Core.Path.{sym, ap}
+use borrow.Author.Rules.{rules}
+use Rattle.tack_extension.specs.Answers.{alert_of}
+use Rattle.tack.specs.Extension.{writing_answer}
+use Rattle.tack.proofs.extension.writing_answer.Goals as goal
+
+pub returns-in-Written : goal.returns-in-Written
+unfolding writing_answer alert_of
+returns-in-Written c = ap writing_answer (sym c.w-1.given.1)
+
+pub returns-in-BadPart : goal.returns-in-BadPart
+unfolding writing_answer alert_of
+returns-in-BadPart c = ap writing_answer (sym c.enum_told-1.given.1)
+
+pub returns-in-NoSpace : goal.returns-in-NoSpace
+unfolding writing_answer alert_of
+returns-in-NoSpace c = ap writing_answer (sym c.enum_told-in-NoSpace-1.given.1)

@@ -1,0 +1,7 @@
+-- The deletion's own contract, with its answer as numbers.
+use borrow.Author.Rules.{rules}
+use Rattle.tack.proofs.Outcomes.{outcome-is, deletion-alert}
+use Rattle.tack.proofs.table.tack_delete.Goals as goal
+
+pub returns : goal.returns
+returns c = (outcome-is _ _ _ _ c.deletion_number-number.ensures c.alert_of.ensures (deletion-alert c.delete.result) c.delete.ensures.0, c.delete.ensures.1)

@@ -1,0 +1,13 @@
+-- Judging's own contract, with its answer as numbers.
+use mathlib.Core.Path.{refl, sym, ap, ◌∙◌}
+use borrow.Author.Rules.{rules}
+use Rattle.tack_extension.specs.Answers.{alert_of}
+use Rattle.pin_answers.specs.Numbers.{judgement_answer}
+use Rattle.tack.proofs.Outcomes.{judgement-is}
+use Rattle.tack.proofs.table.tack_judge.Goals as goal
+
+pub returns-in-Judged : goal.returns-in-Judged
+returns-in-Judged c = (judgement-is alert_of _ _ _ _ _ c.verdict_number-number.ensures c.alert_of.ensures refl refl (ap judgement_answer (sym c.verdict-1.given.1) ∙ c.judge.ensures.0), c.judge.ensures.1)
+
+pub returns-in-Refused : goal.returns-in-Refused
+returns-in-Refused c = (judgement-is alert_of _ _ _ _ _ c.refusal_number-number.ensures c.alert_of-in-Refused.ensures refl refl (ap judgement_answer (sym c.refusal-1.given.1) ∙ c.judge.ensures.0), c.judge.ensures.1)

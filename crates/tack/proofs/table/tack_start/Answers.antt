@@ -1,0 +1,7 @@
+-- Starting's own contract, with its answer as numbers.
+use borrow.Author.Rules.{rules}
+use Rattle.tack.proofs.Outcomes.{outcome-is, starting-alert}
+use Rattle.tack.proofs.table.tack_start.Goals as goal
+
+pub returns : goal.returns
+returns c = (outcome-is _ _ _ _ c.starting_number-number.ensures c.alert_of.ensures (starting-alert c.start.result) c.start.ensures.0, c.start.ensures.1)
