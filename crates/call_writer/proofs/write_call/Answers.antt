@@ -31,7 +31,7 @@ passed c = sym c.before.good-sizes.ensures ∙ not-false _ c.if1.false
 pub returns-then-not-good_sizes : goal.returns-then-not-good_sizes
 unfolding recordable
 returns-then-not-good_sizes c =
-    bad-part (recordable (came c)) (call_bytes (came c)) c.args.out.now (sym c.good_sizes.ensures ∙ not-true _ c.if-not-good_sizes.true)
+    bad-part (recordable (came c)) (call_bytes (came c)) c.args.out.now (sym c.good_sizes.ensures ∙ c.if-not-good_sizes.true)
 
 pub overflow_add-name : goal.overflow_add-name
 overflow_add-name c =
@@ -60,4 +60,4 @@ returns c =
     let w = written (recordable (came c)) (call_bytes (came c)) c.args.out.now fine
     (omega (arith, call_length (came c), (sizes (came c) fine).hash, c.extension_size.ensures, c.if-out-name.false)) in
     let e = c.put_call.ensures in
-    (ap Written e.0 ∙ w.0, e.1 ∙ w.1)
+    record { answer = ap Written e.0 ∙ w.0; written = e.1 ∙ w.1 }

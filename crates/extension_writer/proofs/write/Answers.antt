@@ -14,24 +14,24 @@ pub returns-then-not-good_parts : goal.returns-then-not-good_parts
 returns-then-not-good_parts c =
     let a = c.args in
     let p = parts a.tack.now a.breaks.now a.activation in
-    bad-part (good p) (bytes_of p) a.out.now (sym c.good_parts.ensures ∙ not-true _ c.if-not-good_parts.true)
+    bad-part (good p) (bytes_of p) a.out.now (sym c.good_parts.ensures ∙ c.if-not-good_parts.true)
 
 pub overflow_add-t-2 : goal.overflow_add-t-2
 overflow_add-t-2 c =
     let a = c.args in
-    omega (arith, good-sizes (length a.tack.now) (length a.breaks.now) a.activation (sym c.good_parts.ensures ∙ not-false _ c.if-not-good_parts.false))
+    omega (arith, good-sizes (length a.tack.now) (length a.breaks.now) a.activation (sym c.good_parts.ensures ∙ c.if-not-good_parts.false))
 
 pub returns-then-out-t : goal.returns-then-out-t
 returns-then-out-t c =
     let a = c.args in
     let p = parts a.tack.now a.breaks.now a.activation in
-    no-space (good p) (bytes_of p) a.out.now (sym c.good_parts.ensures ∙ not-false _ c.if-not-good_parts.false)
+    no-space (good p) (bytes_of p) a.out.now (sym c.good_parts.ensures ∙ c.if-not-good_parts.false)
     (omega (arith, bytes-length p))
 
 pub put_extension-requires : goal.put_extension-requires
 put_extension-requires c =
     let a = c.args in
-    let w = good-sizes (length a.tack.now) (length a.breaks.now) a.activation (sym c.good_parts.ensures ∙ not-false _ c.if-not-good_parts.false) in
+    let w = good-sizes (length a.tack.now) (length a.breaks.now) a.activation (sym c.good_parts.ensures ∙ c.if-not-good_parts.false) in
     (omega arith, omega arith, c.if-out-t.false)
 
 pub returns : goal.returns
@@ -39,5 +39,5 @@ returns c =
     let e = c.put_extension.ensures in
     let a = c.args in
     let p = parts a.tack.now a.breaks.now a.activation in
-    let w = written (good p) (bytes_of p) a.out.now (sym c.good_parts.ensures ∙ not-false _ c.if-not-good_parts.false) (omega (arith, bytes-length p, c.if-out-t.false)) in
-    (ap Written e.0 ∙ w.0, e.1 ∙ w.1)
+    let w = written (good p) (bytes_of p) a.out.now (sym c.good_parts.ensures ∙ c.if-not-good_parts.false) (omega (arith, bytes-length p, c.if-out-t.false)) in
+    record { answer = ap Written e.0 ∙ w.0; written = e.1 ∙ w.1 }

@@ -43,4 +43,4 @@ returns c =
     let w₁ = step (116 ∷ 97 ∷ 99 ∷ 107 ∷ 95 ∷ 115 ∷ 105 ∷ 103 ∷ []) refl (start a.out.now) (omega arith) c.put_part-at.ensures in
     let w₂ = step (take 102 t) refl w₁ (omega arith) c.put_part-end.ensures in
     let w = written (eqb (length t) 166) (signed_bytes t) a.out.now (eq-eqb _ _ c.if-tack-ne166.false) (omega (arith, signed-length t c.if-tack-ne166.false)) in
-    (ap Written w₂.place ∙ w.0, w₂.bytes ∙ w.1)
+    record { answer = ap Written w₂.place ∙ w.0; written = w₂.bytes ∙ w.1 }

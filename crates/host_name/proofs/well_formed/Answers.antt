@@ -18,13 +18,13 @@ pub returns-then-not-only_name_bytes : goal.returns-then-not-only_name_bytes
 unfolding well_formed
 returns-then-not-only_name_bytes c =
     let s = c.args.name.now in
-    let e = sym c.only_name_bytes.ensures ∙ not-true _ c.if-not-only_name_bytes.true in
+    let e = sym c.only_name_bytes.ensures ∙ c.if-not-only_name_bytes.true in
     sym (simp (bytes-refused s e, and-false))
 
 pub after_dot-requires : goal.after_dot-requires
 after_dot-requires c =
     let s = c.args.name.now in
-    let e = sym c.only_name_bytes.ensures ∙ not-false _ c.if-not-only_name_bytes.false in
+    let e = sym c.only_name_bytes.ensures ∙ c.if-not-only_name_bytes.false in
     moved-rest (replicate 256 0) s refl (omega arith) c.put_part.ensures.1 e
 
 pub returns : goal.returns

@@ -34,4 +34,4 @@ returns c =
     let same = call-read a.night.now a.name-end a.extension-came a.after c.u32_at.ensures refl
     c.extension_at.ensures (part-between a.night.now (a.name-end + 8) 32) c.checks_at.ensures in
     let e = c.judge_sound_area.ensures in
-    (e.0 ∙ ap (λ (k : Connection). answered (judge k) a.area.now) same, (e.1.0 ∙ ap (λ (k : Connection). area_left (judge k) a.area.now) same, e.1.1))
+    record { answer = e.0 ∙ ap (λ (k : Connection). answered (judge k) a.area.now) same; area = e.1.0 ∙ ap (λ (k : Connection). area_left (judge k) a.area.now) same; sound = e.1.1 }

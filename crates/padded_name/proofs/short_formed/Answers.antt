@@ -22,9 +22,9 @@ returns-then-padded-n-ne0 c =
 
 pub returns-then-not-all_neighbours : goal.returns-then-not-all_neighbours
 returns-then-not-all_neighbours c =
-    sym (is_false _ (λ e. false≢true (sym (not-true _ c.if-not-all_neighbours.true) ∙ c.all_neighbours.ensures ∙ neighbours-fit c.requires e)))
+    sym (is_false _ (λ e. false≢true (sym (c.if-not-all_neighbours.true) ∙ c.all_neighbours.ensures ∙ neighbours-fit c.requires e)))
 
 pub returns : goal.returns
 returns c =
     c.zeros_at.ensures
-    ∙ zeros-left c.requires c.if-padded-lt48.false c.if-padded-n-lt48.false c.if-padded-n-ne0.false (sym c.all_neighbours.ensures ∙ not-false _ c.if-not-all_neighbours.false)
+    ∙ zeros-left c.requires c.if-padded-lt48.false c.if-padded-n-lt48.false c.if-padded-n-ne0.false (sym c.all_neighbours.ensures ∙ c.if-not-all_neighbours.false)

@@ -10,12 +10,12 @@ pub returns-then-not-well_formed : goal.returns-then-not-well_formed
 returns-then-not-well_formed c =
     let a = c.args in
     refused-name a.clock a.name.now a.extension.now a.hash.now a.checks a.area.now c.requires.0 c.requires.1
-    (sym c.well_formed-2.ensures ∙ not-true _ c.if-not-well_formed.true)
+    (sym c.well_formed-2.ensures ∙ c.if-not-well_formed.true)
 
 pub returns-in_default : goal.returns-in_default
 returns-in_default c =
     let a = c.args in
-    let formed = sym c.well_formed-2.ensures ∙ not-false _ c.if-not-well_formed.false in
+    let formed = sym c.well_formed-2.ensures ∙ c.if-not-well_formed.false in
     refused-late a.clock a.name.now a.extension.now a.hash.now a.checks a.area.now c.requires.0 c.requires.1 formed
     (above _ (sym c.enum_told-1.given.1 ∙ c.of_clock.ensures))
 
@@ -24,7 +24,7 @@ judge_at-requires c =
     let in_time = within _ _ (sym c.now-1.given.1 ∙ c.of_clock.ensures) in (
       c.requires.0,
       sound-admitted c.args.area.now c.args.name.now _ (λ i. (c.slice_known-1.given i).fits) c.requires.0 c.requires.1
-          (sym c.well_formed-2.ensures ∙ not-false _ c.if-not-well_formed.false) in_time.in_limit,
+          (sym c.well_formed-2.ensures ∙ c.if-not-well_formed.false) in_time.in_limit,
     )
 
 pub returns : goal.returns

@@ -22,7 +22,7 @@ is_two-requires c = (rules-of _ c.requires).whole
 pub returns-then-is_two : goal.returns-then-is_two
 returns-then-is_two c =
     let refused = refused-edition _ _ c.requires (sym c.is_two.ensures ∙ c.if-is_two.true) in
-    (refused.0, (refused.1, c.requires))
+    record { answer = refused.0; area = refused.1; sound = c.requires }
 
 pub slice_bounds-folded-end : goal.slice_bounds-folded-end
 slice_bounds-folded-end c = sym (room c.args.name.now c.fold-n.ensures)
@@ -43,7 +43,4 @@ returns c =
     let its = front a.name.now c.fold-n.ensures in
     let same = judge-handed whole a.area.now in
     let w = c.judge_folded.ensures in
-    let area = w.1 ∙ ap (λ (name : List ℕ). area_after (judge (named name whole)) a.area.now) its ∙ same.1 in (
-      w.0 ∙ ap (λ (name : List ℕ). answer (judge (named name whole)) a.area.now) its ∙ same.0,
-      (area, ap sound area ∙ left-keeps _ _ c.requires),
-    )
+    let area = w.1 ∙ ap (λ (name : List ℕ). area_after (judge (named name whole)) a.area.now) its ∙ same.1 in record { answer = w.0 ∙ ap (λ (name : List ℕ). answer (judge (named name whole)) a.area.now) its ∙ same.0; area = area; sound = ap sound area ∙ left-keeps _ _ c.requires }

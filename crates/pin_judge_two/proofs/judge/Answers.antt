@@ -32,7 +32,7 @@ returns-then-not-is_two c =
     let passed = sym c.check_area.ensures ∙ ap checked_number c.enum_told-1.given.1 in
     as-it-came it c.args.area.now
     (refused-edition (folded_connection it) c.args.area.now (area-facts c.args.area.now [] passed).area_sound
-    (sym c.is_two.ensures ∙ not-true _ c.if-not-is_two.true))
+    (sym c.is_two.ensures ∙ c.if-not-is_two.true))
 
 pub slice_bounds-folded-end : goal.slice_bounds-folded-end
 slice_bounds-folded-end c = sym (room c.args.name.now c.fold-n.ensures)
@@ -45,7 +45,7 @@ slice_bounds-judge_folded-end c =
 
 pub judge_folded-requires : goal.judge_folded-requires
 judge_folded-requires c =
-    ((area-facts c.args.area.now [] (sym c.check_area.ensures ∙ ap checked_number c.enum_told-1.given.1)).area_sound, sym c.is_two.ensures ∙ not-false _ c.if-not-is_two.false)
+    ((area-facts c.args.area.now [] (sym c.check_area.ensures ∙ ap checked_number c.enum_told-1.given.1)).area_sound, sym c.is_two.ensures ∙ c.if-not-is_two.false)
 
 pub returns : goal.returns
 returns c =

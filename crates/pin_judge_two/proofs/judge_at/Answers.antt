@@ -29,7 +29,7 @@ returns-then-not-checks c =
     c.args.hash.now c.args.checks in
     let latest = c.count-2.ensures ∙ c.latest.ensures in
     let in_time = in-time c.count.ensures latest c.if-count.false in
-    refused-unfinished it c.args.area.now c.requires in_time (not-true _ c.if-not-checks.true)
+    refused-unfinished it c.args.area.now c.requires in_time (c.if-not-checks.true)
 
 pub judge_parts-requires : goal.judge_parts-requires
 judge_parts-requires c =
@@ -45,8 +45,8 @@ returns-then-not-extension_came c =
     let in_time = in-time c.count.ensures latest c.if-count.false in
     let e = c.judge_parts.ensures in
     judged-parts it c.args.area.now c.requires in_time
-    (not-false _ c.if-not-checks.false) (parts_two _ _ 0)
-    (none_came it (not-true _ c.if-not-extension_came.true)) e.0 e.1
+    (c.if-not-checks.false) (parts_two _ _ 0)
+    (none_came it (c.if-not-extension_came.true)) e.0 e.1
 
 pub returns-in_default : goal.returns-in_default
 returns-in_default c =
@@ -54,8 +54,8 @@ returns-in_default c =
     c.args.hash.now c.args.checks in
     let latest = c.count-2.ensures ∙ c.latest.ensures in
     let in_time = in-time c.count.ensures latest c.if-count.false in
-    refused-read it c.args.area.now c.requires in_time (not-false _ c.if-not-checks.false)
-    (came-parts it (not-false _ c.if-not-extension_came.false) _
+    refused-read it c.args.area.now c.requires in_time (c.if-not-checks.false)
+    (came-parts it (c.if-not-extension_came.false) _
     (read_none (parse_two c.args.extension.now) (sym c.read.ensures ∙ c.enum_told-1.given.1)))
 
 pub judge_parts-requires-2 : goal.judge_parts-requires-2
@@ -74,6 +74,6 @@ returns c =
     let r = read-two (parse_two c.args.extension.now) _ (sym c.read.ensures ∙ c.flags-1.given.1) in
     let e = c.judge_parts-2.ensures in
     judged-read it c.args.area.now c.requires in_time
-    (not-false _ c.if-not-checks.false)
-    (not-false _ c.if-not-extension_came.false) r
+    (c.if-not-checks.false)
+    (c.if-not-extension_came.false) r
     c.first_tack.ensures c.second_tack.ensures e.0 e.1

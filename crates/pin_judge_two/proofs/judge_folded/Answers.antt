@@ -11,20 +11,20 @@ pub returns-then-not-well_formed : goal.returns-then-not-well_formed
 returns-then-not-well_formed c =
     let it = connection c.args.clock c.args.name.now c.args.extension-came c.args.extension.now
     c.args.hash.now c.args.checks in
-    refused-name it c.args.area.now c.requires.0 c.requires.1 (sym c.well_formed-2.ensures ∙ not-true _ c.if-not-well_formed.true)
+    refused-name it c.args.area.now c.requires.0 c.requires.1 (sym c.well_formed-2.ensures ∙ c.if-not-well_formed.true)
 
 pub returns-in_default : goal.returns-in_default
 returns-in_default c =
     let it = connection c.args.clock c.args.name.now c.args.extension-came c.args.extension.now
     c.args.hash.now c.args.checks in
-    refused-limit it c.args.area.now c.requires.0 c.requires.1 (sym c.well_formed-2.ensures ∙ not-false _ c.if-not-well_formed.false)
+    refused-limit it c.args.area.now c.requires.0 c.requires.1 (sym c.well_formed-2.ensures ∙ c.if-not-well_formed.false)
     (above _ (sym c.enum_told-1.given.1 ∙ c.of_clock.ensures))
 
 pub judge_at-requires : goal.judge_at-requires
 judge_at-requires c =
     let in_time = within _ _ (sym c.now-1.given.1 ∙ c.of_clock.ensures) in
     admitted c.args.area.now c.args.name.now _ (λ i. (c.slice_known-1.given i).fits) c.requires.0 c.requires.1
-    (sym c.well_formed-2.ensures ∙ not-false _ c.if-not-well_formed.false) in_time.in_limit
+    (sym c.well_formed-2.ensures ∙ c.if-not-well_formed.false) in_time.in_limit
 
 pub returns : goal.returns
 returns c =

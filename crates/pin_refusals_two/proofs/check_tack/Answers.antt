@@ -41,12 +41,12 @@ targets-requires c =
 
 pub returns-then-not-targets : goal.returns-then-not-targets
 returns-then-not-targets c =
-    simp (part-there c.args.clock.0 c.args.hash.now c.args.key-is-point c.args.signature-correct c.args.tack.now c.if-tack-eq0.false, c.if-not-key_is_point.false, not-below c.generation.ensures c.min_generation.ensures c.if-generation-min_generation.false, above c.expiration.ensures c.count.ensures c.if-expiration-count.false, sym c.targets.ensures ∙ not-true _ c.if-not-targets.true)
+    simp (part-there c.args.clock.0 c.args.hash.now c.args.key-is-point c.args.signature-correct c.args.tack.now c.if-tack-eq0.false, c.if-not-key_is_point.false, not-below c.generation.ensures c.min_generation.ensures c.if-generation-min_generation.false, above c.expiration.ensures c.count.ensures c.if-expiration-count.false, sym c.targets.ensures ∙ c.if-not-targets.true)
 
 pub returns-then-not-signature_correct : goal.returns-then-not-signature_correct
 returns-then-not-signature_correct c =
-    simp (part-there c.args.clock.0 c.args.hash.now c.args.key-is-point c.args.signature-correct c.args.tack.now c.if-tack-eq0.false, c.if-not-key_is_point.false, not-below c.generation.ensures c.min_generation.ensures c.if-generation-min_generation.false, above c.expiration.ensures c.count.ensures c.if-expiration-count.false, sym c.targets.ensures ∙ not-false _ c.if-not-targets.false, c.if-not-signature_correct.true)
+    simp (part-there c.args.clock.0 c.args.hash.now c.args.key-is-point c.args.signature-correct c.args.tack.now c.if-tack-eq0.false, c.if-not-key_is_point.false, not-below c.generation.ensures c.min_generation.ensures c.if-generation-min_generation.false, above c.expiration.ensures c.count.ensures c.if-expiration-count.false, sym c.targets.ensures ∙ c.if-not-targets.false, c.if-not-signature_correct.true)
 
 pub returns : goal.returns
 returns c =
-    simp (part-there c.args.clock.0 c.args.hash.now c.args.key-is-point c.args.signature-correct c.args.tack.now c.if-tack-eq0.false, c.if-not-key_is_point.false, not-below c.generation.ensures c.min_generation.ensures c.if-generation-min_generation.false, above c.expiration.ensures c.count.ensures c.if-expiration-count.false, sym c.targets.ensures ∙ not-false _ c.if-not-targets.false, c.if-not-signature_correct.false)
+    simp (part-there c.args.clock.0 c.args.hash.now c.args.key-is-point c.args.signature-correct c.args.tack.now c.if-tack-eq0.false, c.if-not-key_is_point.false, not-below c.generation.ensures c.min_generation.ensures c.if-generation-min_generation.false, above c.expiration.ensures c.count.ensures c.if-expiration-count.false, sym c.targets.ensures ∙ c.if-not-targets.false, c.if-not-signature_correct.false)

@@ -41,4 +41,4 @@ pub returns : goal.returns
 returns c =
     let h = c.loop-i.invariant in
     let s = c.args.name.now in
-    (h.0, h.3 ∙ ap (put _ 0) (take_all c.loop-i.i (take 254 (folded_name s)) (omega (arith, taken-length 254 s))))
+    record { length = h.0; bytes = h.3 ∙ ap (put _ 0) (take_all c.loop-i.i (take 254 (folded_name s)) (omega (arith, taken-length 254 s))) }

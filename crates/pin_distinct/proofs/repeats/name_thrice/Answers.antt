@@ -16,18 +16,18 @@ loop-m-init c = (omega arith, below_none _)
 
 pub loop-m-preserved-then-not-same_name : goal.loop-m-preserved-then-not-same_name
 loop-m-preserved-then-not-same_name c =
-    let alike = said same_name c.name_slot-s.ensures.0 c.name_slot-r.ensures.0 c.same_name.ensures (not-true _ c.if-not-same_name.true) in
+    let alike = said same_name c.name_slot-s.ensures.0 c.name_slot-r.ensures.0 c.same_name.ensures (c.if-not-same_name.true) in
     (omega arith, below_more _ _ c.loop-m.invariant.1 (rw alike))
 
 pub returns-then-name_twice : goal.returns-then-name_twice
 unfolding name_thrice
 returns-then-name_twice c =
-    let alike = said same_name c.name_slot-s.ensures.0 c.name_slot-r.ensures.0 c.same_name.ensures (not-false _ c.if-not-same_name.false) in
+    let alike = said same_name c.name_slot-s.ensures.0 c.name_slot-r.ensures.0 c.same_name.ensures (c.if-not-same_name.false) in
     sym (some-true _ _ _ c.loop-m-test.true (ap₂ ◌&&◌ alike (sym c.name_twice.ensures ∙ c.if-name_twice.true)))
 
 pub loop-m-preserved : goal.loop-m-preserved
 loop-m-preserved c =
-    let alike = said same_name c.name_slot-s.ensures.0 c.name_slot-r.ensures.0 c.same_name.ensures (not-false _ c.if-not-same_name.false) in
+    let alike = said same_name c.name_slot-s.ensures.0 c.name_slot-r.ensures.0 c.same_name.ensures (c.if-not-same_name.false) in
     (omega arith, below_more _ _ c.loop-m.invariant.1 (ap₂ ◌&&◌ alike (sym c.name_twice.ensures ∙ c.if-name_twice.false)))
 
 pub returns : goal.returns

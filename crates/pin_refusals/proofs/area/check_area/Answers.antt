@@ -9,7 +9,7 @@ pub returns-then-area-ne-AREA_LENGTH : goal.returns-then-area-ne-AREA_LENGTH
 returns-then-area-ne-AREA_LENGTH c = simp (ne_eqb _ _ c.if-area-ne-AREA_LENGTH.true)
 
 pub returns-then-not-is_sound : goal.returns-then-not-is_sound
-returns-then-not-is_sound c = simp (eq-eqb _ _ c.if-area-ne-AREA_LENGTH.false, sym c.is_sound.ensures ∙ not-true _ c.if-not-is_sound.true)
+returns-then-not-is_sound c = simp (eq-eqb _ _ c.if-area-ne-AREA_LENGTH.false, sym c.is_sound.ensures ∙ c.if-not-is_sound.true)
 
 pub returns : goal.returns
-returns c = sym (area-passes _ (sym c.is_sound.ensures ∙ not-false _ c.if-not-is_sound.false))
+returns c = sym (area-passes _ (sym c.is_sound.ensures ∙ c.if-not-is_sound.false))

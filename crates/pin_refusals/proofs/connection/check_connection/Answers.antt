@@ -27,7 +27,7 @@ breaks_correct-requires c =
 
 pub returns-then-not-breaks_correct : goal.returns-then-not-breaks_correct
 returns-then-not-breaks_correct c =
-    simp (not-below c.count.ensures (c.count-2.ensures ∙ c.latest.ensures) c.if-count.false, c.if-not-checks.false, (well-shown _ _ (sym c.read.ensures ∙ c.enum_told-1.given.1)).parses, sym (rw c.breaks_part.ensures at c.breaks_correct.ensures) ∙ not-true _ c.if-not-breaks_correct.true)
+    simp (not-below c.count.ensures (c.count-2.ensures ∙ c.latest.ensures) c.if-count.false, c.if-not-checks.false, (well-shown _ _ (sym c.read.ensures ∙ c.enum_told-1.given.1)).parses, sym (rw c.breaks_part.ensures at c.breaks_correct.ensures) ∙ c.if-not-breaks_correct.true)
 
 pub check_tack-requires : goal.check_tack-requires
 check_tack-requires c =
@@ -35,5 +35,5 @@ check_tack-requires c =
 
 pub returns : goal.returns
 returns c =
-    simp (not-below c.count.ensures (c.count-2.ensures ∙ c.latest.ensures) c.if-count.false, c.if-not-checks.false, (well-shown _ _ (sym c.read.ensures ∙ c.enum_told-1.given.1)).parses, sym (rw c.breaks_part.ensures at c.breaks_correct.ensures) ∙ not-false _ c.if-not-breaks_correct.false)
+    simp (not-below c.count.ensures (c.count-2.ensures ∙ c.latest.ensures) c.if-count.false, c.if-not-checks.false, (well-shown _ _ (sym c.read.ensures ∙ c.enum_told-1.given.1)).parses, sym (rw c.breaks_part.ensures at c.breaks_correct.ensures) ∙ c.if-not-breaks_correct.false)
     (rw c.tack_part.ensures at c.check_tack.ensures)

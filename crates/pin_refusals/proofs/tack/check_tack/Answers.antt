@@ -31,11 +31,11 @@ targets-requires c =
 
 pub returns-then-not-targets : goal.returns-then-not-targets
 returns-then-not-targets c =
-    simp (shown c.args.tack.now c.if-tack-eq0.false, c.if-not-checks.false, not-below c.generation.ensures c.min_generation.ensures c.if-generation-min_generation.false, sym c.targets.ensures ∙ not-true _ c.if-not-targets.true)
+    simp (shown c.args.tack.now c.if-tack-eq0.false, c.if-not-checks.false, not-below c.generation.ensures c.min_generation.ensures c.if-generation-min_generation.false, sym c.targets.ensures ∙ c.if-not-targets.true)
 
 pub returns-then-not-checks-2 : goal.returns-then-not-checks-2
 returns-then-not-checks-2 c =
-    simp (shown c.args.tack.now c.if-tack-eq0.false, c.if-not-checks.false, not-below c.generation.ensures c.min_generation.ensures c.if-generation-min_generation.false, sym c.targets.ensures ∙ not-false _ c.if-not-targets.false, c.if-not-checks-2.true)
+    simp (shown c.args.tack.now c.if-tack-eq0.false, c.if-not-checks.false, not-below c.generation.ensures c.min_generation.ensures c.if-generation-min_generation.false, sym c.targets.ensures ∙ c.if-not-targets.false, c.if-not-checks-2.true)
 
 pub is_revoked-requires : goal.is_revoked-requires
 is_revoked-requires c =
@@ -43,7 +43,7 @@ is_revoked-requires c =
 
 pub returns-then-is_revoked : goal.returns-then-is_revoked
 returns-then-is_revoked c =
-    simp (shown c.args.tack.now c.if-tack-eq0.false, c.if-not-checks.false, not-below c.generation.ensures c.min_generation.ensures c.if-generation-min_generation.false, sym c.targets.ensures ∙ not-false _ c.if-not-targets.false, c.if-not-checks-2.false, sym c.is_revoked.ensures ∙ c.if-is_revoked.true)
+    simp (shown c.args.tack.now c.if-tack-eq0.false, c.if-not-checks.false, not-below c.generation.ensures c.min_generation.ensures c.if-generation-min_generation.false, sym c.targets.ensures ∙ c.if-not-targets.false, c.if-not-checks-2.false, sym c.is_revoked.ensures ∙ c.if-is_revoked.true)
 
 pub expiration-requires : goal.expiration-requires
 expiration-requires c =
@@ -51,8 +51,8 @@ expiration-requires c =
 
 pub returns-then-expiration-count : goal.returns-then-expiration-count
 returns-then-expiration-count c =
-    simp (shown c.args.tack.now c.if-tack-eq0.false, c.if-not-checks.false, not-below c.generation.ensures c.min_generation.ensures c.if-generation-min_generation.false, sym c.targets.ensures ∙ not-false _ c.if-not-targets.false, c.if-not-checks-2.false, sym c.is_revoked.ensures ∙ c.if-is_revoked.false, below c.expiration.ensures c.count.ensures c.if-expiration-count.true)
+    simp (shown c.args.tack.now c.if-tack-eq0.false, c.if-not-checks.false, not-below c.generation.ensures c.min_generation.ensures c.if-generation-min_generation.false, sym c.targets.ensures ∙ c.if-not-targets.false, c.if-not-checks-2.false, sym c.is_revoked.ensures ∙ c.if-is_revoked.false, below c.expiration.ensures c.count.ensures c.if-expiration-count.true)
 
 pub returns : goal.returns
 returns c =
-    simp (shown c.args.tack.now c.if-tack-eq0.false, c.if-not-checks.false, not-below c.generation.ensures c.min_generation.ensures c.if-generation-min_generation.false, sym c.targets.ensures ∙ not-false _ c.if-not-targets.false, c.if-not-checks-2.false, sym c.is_revoked.ensures ∙ c.if-is_revoked.false, not-below c.expiration.ensures c.count.ensures c.if-expiration-count.false)
+    simp (shown c.args.tack.now c.if-tack-eq0.false, c.if-not-checks.false, not-below c.generation.ensures c.min_generation.ensures c.if-generation-min_generation.false, sym c.targets.ensures ∙ c.if-not-targets.false, c.if-not-checks-2.false, sym c.is_revoked.ensures ∙ c.if-is_revoked.false, not-below c.expiration.ensures c.count.ensures c.if-expiration-count.false)

@@ -26,7 +26,7 @@ pub returns-then-not-holds_key : goal.returns-then-not-holds_key
 returns-then-not-holds_key c =
     let x = name-found-at _ c.requires.0.fits.name_slots _ _ (sym c.n-1.given.1 ∙ c.find_name.ensures) in
     let t = pinned-test c.requires.0 _ x.what x.there c.args.tack.now c.public_key.ensures c.key_of.ensures.1 c.holds_key.ensures in
-    extend-other c.args.name.now c.args.tack.now c.args.clock.0 c.requires.0 c.requires.3 x (sym t ∙ not-true _ c.if-not-holds_key.true)
+    extend-other c.args.name.now c.args.tack.now c.args.clock.0 c.requires.0 c.requires.3 x (sym t ∙ c.if-not-holds_key.true)
 
 pub extend_at-requires : goal.extend_at-requires
 extend_at-requires c =
@@ -38,4 +38,4 @@ pub returns : goal.returns
 returns c =
     let x = name-found-at _ c.requires.0.fits.name_slots _ _ (sym c.n-1.given.1 ∙ c.find_name.ensures) in
     let t = pinned-test c.requires.0 _ x.what x.there c.args.tack.now c.public_key.ensures c.key_of.ensures.1 c.holds_key.ensures in
-    extend-stored c.args.name.now c.args.tack.now c.args.clock.0 c.requires.0 c.requires.3 x (sym t ∙ not-false _ c.if-not-holds_key.false) c.extend_at.ensures
+    extend-stored c.args.name.now c.args.tack.now c.args.clock.0 c.requires.0 c.requires.3 x (sym t ∙ c.if-not-holds_key.false) c.extend_at.ensures

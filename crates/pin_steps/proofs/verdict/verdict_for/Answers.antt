@@ -23,13 +23,13 @@ pub returns-then-not-is_active : goal.returns-then-not-is_active
 returns-then-not-is_active c =
     verdict-inactive c.requires.0 c.args.name.now c.args.clock.0 c.args.tack.now c.requires.2
     (name-found-at _ c.requires.0.fits.name_slots _ _ (sym c.n-1.given.1 ∙ c.find_name.ensures))
-    (sym c.is_active.ensures ∙ not-true _ c.if-not-is_active.true)
+    (sym c.is_active.ensures ∙ c.if-not-is_active.true)
 
 pub returns-then-tack-eq0 : goal.returns-then-tack-eq0
 returns-then-tack-eq0 c =
     verdict-empty c.requires.0 c.args.name.now c.args.clock.0 c.args.tack.now c.requires.2
     (name-found-at _ c.requires.0.fits.name_slots _ _ (sym c.n-1.given.1 ∙ c.find_name.ensures))
-    (sym c.is_active.ensures ∙ not-false _ c.if-not-is_active.false) c.if-tack-eq0.true
+    (sym c.is_active.ensures ∙ c.if-not-is_active.false) c.if-tack-eq0.true
 
 pub key_of-requires : goal.key_of-requires
 key_of-requires c =
@@ -49,7 +49,7 @@ returns-then-holds_key c =
     let x = name-found-at _ c.requires.0.fits.name_slots _ _ (sym c.n-1.given.1 ∙ c.find_name.ensures) in
     let t = pinned-test c.requires.0 _ x.what x.there c.args.tack.now c.public_key.ensures c.key_of.ensures.1 c.holds_key.ensures in
     verdict-shown c.requires.0 c.args.name.now c.args.clock.0 c.args.tack.now c.requires.2 x
-    (sym c.is_active.ensures ∙ not-false _ c.if-not-is_active.false) true
+    (sym c.is_active.ensures ∙ c.if-not-is_active.false) true
     (whole_length _ c.requires.1 c.if-tack-eq0.false) (sym t ∙ c.if-holds_key.true)
 
 pub returns : goal.returns
@@ -57,5 +57,5 @@ returns c =
     let x = name-found-at _ c.requires.0.fits.name_slots _ _ (sym c.n-1.given.1 ∙ c.find_name.ensures) in
     let t = pinned-test c.requires.0 _ x.what x.there c.args.tack.now c.public_key.ensures c.key_of.ensures.1 c.holds_key.ensures in
     verdict-shown c.requires.0 c.args.name.now c.args.clock.0 c.args.tack.now c.requires.2 x
-    (sym c.is_active.ensures ∙ not-false _ c.if-not-is_active.false) false
+    (sym c.is_active.ensures ∙ c.if-not-is_active.false) false
     (whole_length _ c.requires.1 c.if-tack-eq0.false) (sym t ∙ c.if-holds_key.false)

@@ -14,7 +14,7 @@ returns-then-tack-eq0 c =
 
 pub returns-then-not-enabled : goal.returns-then-not-enabled
 returns-then-not-enabled c =
-    learned-disabled c.args.name.now c.args.clock.0 (decode c.args.area.now) _ c.args.enabled (not-true _ c.if-not-enabled.true) c.args.tack.now c.requires.0
+    learned-disabled c.args.name.now c.args.clock.0 (decode c.args.area.now) _ c.args.enabled (c.if-not-enabled.true) c.args.tack.now c.requires.0
 
 pub public_key-requires : goal.public_key-requires
 public_key-requires c =
@@ -36,7 +36,7 @@ make_own-requires c =
 
 pub returns-in_default : goal.returns-in_default
 returns-in_default c =
-    learned-made c.args.name.now c.args.clock.0 (decode c.args.area.now) _ c.args.enabled (not-false _ c.if-not-enabled.false) c.args.tack.now
+    learned-made c.args.name.now c.args.clock.0 (decode c.args.area.now) _ c.args.enabled (c.if-not-enabled.false) c.args.tack.now
     (whole_length _ c.requires.2 c.if-tack-eq0.false)
     (pin-absent c.args.name.now c.public_key.ensures _ c.requires.0.fits.name_slots (sym c.enum_told-1.given.1 ∙ c.find_pin.ensures))
     c.make_own.ensures
@@ -54,6 +54,6 @@ extend_at-requires c =
 pub returns : goal.returns
 returns c =
     let x = pin_at c.args.name.now c.public_key.ensures _ c.requires.0.fits.name_slots _ (sym c.n-1.given.1 ∙ c.find_pin.ensures) in
-    learned-extended c.args.name.now c.args.clock.0 (decode c.args.area.now) _ c.args.enabled (not-false _ c.if-not-enabled.false) c.args.tack.now
+    learned-extended c.args.name.now c.args.clock.0 (decode c.args.area.now) _ c.args.enabled (c.if-not-enabled.false) c.args.tack.now
     (whole_length _ c.requires.2 c.if-tack-eq0.false) x.recorded
     (own-extended c.args.name.now c.args.clock.0 c.args.tack.now c.requires.0 x c.extend_at.ensures)

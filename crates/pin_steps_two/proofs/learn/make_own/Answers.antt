@@ -24,7 +24,7 @@ returns-then-not-key_fits c =
     no-key-slot c.args.name.now c.args.clock.0 c.args.tack.now c.requires.0 c.requires.4
     (fewer-than-two (name_is c.args.name.now) _ c.requires.0.fits.name_slots (sym c.enum_told-in_default-1.given.1 ∙ c.second_name.ensures))
     (name-free-at _ c.requires.0.fits.name_slots _ (sym c.n-1.given.1 ∙ c.free_name.ensures))
-    (sym c.key_fits.ensures ∙ not-true _ c.if-not-key_fits.true)
+    (sym c.key_fits.ensures ∙ c.if-not-key_fits.true)
 
 pub store_new-requires : goal.store_new-requires
 store_new-requires c =
@@ -36,7 +36,7 @@ store_new-requires c =
       own_fresh c.args.name.now c.args.clock.0 c.args.tack.now c.requires.0 c.requires.4
           (fewer-than-two (name_is c.args.name.now) _ c.requires.0.fits.name_slots (sym c.enum_told-in_default-1.given.1 ∙ c.second_name.ensures))
           free c.requires.1.two,
-      sym c.key_fits.ensures ∙ not-false _ c.if-not-key_fits.false,
+      sym c.key_fits.ensures ∙ c.if-not-key_fits.false,
     )
 
 pub returns : goal.returns
@@ -44,4 +44,4 @@ returns c =
     own-made c.args.name.now c.args.clock.0 c.args.tack.now c.requires.0 c.requires.4
     (fewer-than-two (name_is c.args.name.now) _ c.requires.0.fits.name_slots (sym c.enum_told-in_default-1.given.1 ∙ c.second_name.ensures))
     (name-free-at _ c.requires.0.fits.name_slots _ (sym c.n-1.given.1 ∙ c.free_name.ensures))
-    (sym c.key_fits.ensures ∙ not-false _ c.if-not-key_fits.false) c.store_new.ensures
+    (sym c.key_fits.ensures ∙ c.if-not-key_fits.false) c.store_new.ensures

@@ -10,8 +10,8 @@ use Rattle.pin_steps_two.proofs.matching.shows_enabled.Goals as goal
 
 pub returns-then-not-enabled : goal.returns-then-not-enabled
 returns-then-not-enabled c =
-    enabled-none c.args.enabled (not-true _ c.if-not-enabled.true) c.args.tack.now (get_or (decode c.args.area.now).names c.args.n.0 none)
+    enabled-none c.args.enabled (c.if-not-enabled.true) c.args.tack.now (get_or (decode c.args.area.now).names c.args.n.0 none)
 
 pub returns : goal.returns
 returns c =
-    c.shows.ensures ∙ enabled-shown c.args.enabled (not-false _ c.if-not-enabled.false) c.args.tack.now (get_or (decode c.args.area.now).names c.args.n.0 none)
+    c.shows.ensures ∙ enabled-shown c.args.enabled (c.if-not-enabled.false) c.args.tack.now (get_or (decode c.args.area.now).names c.args.n.0 none)

@@ -11,9 +11,9 @@ use Rattle.pin_steps_two.proofs.verdict.holds_active.Goals as goal
 
 pub returns-then-not-holds_name : goal.returns-then-not-holds_name
 returns-then-not-holds_name c =
-    sym (holds-neither (name_is c.args.name.now) (active c.args.clock.0) (get_or (decode c.args.area.now).names c.args.n.0 none) (sym c.holds_name.ensures ∙ not-true _ c.if-not-holds_name.true))
+    sym (holds-neither (name_is c.args.name.now) (active c.args.clock.0) (get_or (decode c.args.area.now).names c.args.n.0 none) (sym c.holds_name.ensures ∙ c.if-not-holds_name.true))
 
 pub returns : goal.returns
 returns c =
     c.is_active.ensures
-    ∙ sym (holds-both (name_is c.args.name.now) (active c.args.clock.0) (get_or (decode c.args.area.now).names c.args.n.0 none) (sym c.holds_name.ensures ∙ not-false _ c.if-not-holds_name.false))
+    ∙ sym (holds-both (name_is c.args.name.now) (active c.args.clock.0) (get_or (decode c.args.area.now).names c.args.n.0 none) (sym c.holds_name.ensures ∙ c.if-not-holds_name.false))

@@ -7,12 +7,12 @@ use Rattle.recorded_call.proofs.reader.take_extension.Goals as goal
 
 pub returns-then-not-is_tagged : goal.returns-then-not-is_tagged
 returns-then-not-is_tagged c =
-    let untagged = sym c.is_tagged.ensures ∙ not-true _ c.if-not-is_tagged.true in
+    let untagged = sym c.is_tagged.ensures ∙ c.if-not-is_tagged.true in
     rw untagged c.take_end.ensures
 
 pub returns-in_default : goal.returns-in_default
 returns-in_default c =
-    let tagged = sym c.is_tagged.ensures ∙ not-false _ c.if-not-is_tagged.false in
+    let tagged = sym c.is_tagged.ensures ∙ c.if-not-is_tagged.false in
     rw tagged (stops _ _ _ c.stopped.ensures c.in_default.keys2 c.field_end-extension.ensures)
 
 pub take_end-requires-2 : goal.take_end-requires-2
@@ -22,5 +22,5 @@ take_end-requires-2 c =
 
 pub returns : goal.returns
 returns c =
-    let tagged = sym c.is_tagged.ensures ∙ not-false _ c.if-not-is_tagged.false in
+    let tagged = sym c.is_tagged.ensures ∙ c.if-not-is_tagged.false in
     rw tagged (goes _ _ _ c.take_end-2.ensures c.extension-1.given.1 c.field_end-extension.ensures)

@@ -5,4 +5,4 @@ use Rattle.tack.specs.Extension.{writing_answer}
 use Rattle.tack.proofs.extension.tack_extension_write.Goals as goal
 
 pub returns : goal.returns
-returns c = (c.writing_answer.ensures ∙ ap writing_answer c.write.ensures.0, c.write.ensures.1)
+returns c = record { answer = c.writing_answer.ensures ∙ ap writing_answer c.write.ensures.answer; written = c.write.ensures.written }

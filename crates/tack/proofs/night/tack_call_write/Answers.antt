@@ -5,4 +5,4 @@ use Rattle.tack.specs.Extension.{writing_answer}
 use Rattle.tack.proofs.night.tack_call_write.Goals as goal
 
 pub returns : goal.returns
-returns c = (c.writing_answer.ensures ∙ ap writing_answer c.write_call.ensures.0, c.write_call.ensures.1)
+returns c = record { answer = c.writing_answer.ensures ∙ ap writing_answer c.write_call.ensures.answer; written = c.write_call.ensures.written }

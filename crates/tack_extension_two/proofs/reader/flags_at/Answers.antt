@@ -17,10 +17,10 @@ pub returns-then-not-flags_allowed : goal.returns-then-not-flags_allowed
 unfolding flags_step
 returns-then-not-flags_allowed c =
     let a = c.args in
-    last-refused (flags_allowed a.tacks) a.s.now a.at (omega arith) (sym c.flags_allowed.ensures ∙ not-true _ c.if-not-flags_allowed.true)
+    last-refused (flags_allowed a.tacks) a.s.now a.at (omega arith) (sym c.flags_allowed.ensures ∙ c.if-not-flags_allowed.true)
 
 pub returns : goal.returns
 unfolding flags_step
 returns c =
     let a = c.args in
-    last-read (flags_allowed a.tacks) a.s.now a.at (omega arith) (sym c.flags_allowed.ensures ∙ not-false _ c.if-not-flags_allowed.false)
+    last-read (flags_allowed a.tacks) a.s.now a.at (omega arith) (sym c.flags_allowed.ensures ∙ c.if-not-flags_allowed.false)

@@ -18,18 +18,18 @@ returns-then-not-tacks_length c =
     let s = c.args.s.now in
     let n = c.u16_at-n.result in
     end_refused (tacks_step s) (tacks_length n) n (drop 2 s) (tacks-some s n (omega arith) c.u16_at-n.ensures) 2
-    (sym c.tacks_length.ensures ∙ not-true _ c.if-not-tacks_length.true)
+    (sym c.tacks_length.ensures ∙ c.if-not-tacks_length.true)
 
 pub returns-then-s-n : goal.returns-then-s-n
 returns-then-s-n c =
     let s = c.args.s.now in
     let n = c.u16_at-n.result in
     end_short (tacks_step s) (tacks_length n) n (drop 2 s) (tacks-some s n (omega arith) c.u16_at-n.ensures) 2
-    (sym c.tacks_length.ensures ∙ not-false _ c.if-not-tacks_length.false) (omega (arith, length-drop 2 s))
+    (sym c.tacks_length.ensures ∙ c.if-not-tacks_length.false) (omega (arith, length-drop 2 s))
 
 pub returns : goal.returns
 returns c =
     let s = c.args.s.now in
     let n = c.u16_at-n.result in
     end_read (tacks_step s) (tacks_length n) n (drop 2 s) (tacks-some s n (omega arith) c.u16_at-n.ensures) 2
-    (sym c.tacks_length.ensures ∙ not-false _ c.if-not-tacks_length.false) (omega (arith, length-drop 2 s))
+    (sym c.tacks_length.ensures ∙ c.if-not-tacks_length.false) (omega (arith, length-drop 2 s))

@@ -17,7 +17,7 @@ returns-then-not-tacks_length c =
     let t = a.tacks.now in
     let p = parts_in t a.flags in
     bad-part (good_two p) (bytes_of_two p) a.out.now
-    (bad-tacks t a.flags (sym c.tacks_length.ensures ∙ not-true _ c.if-not-tacks_length.true))
+    (bad-tacks t a.flags (sym c.tacks_length.ensures ∙ c.if-not-tacks_length.true))
 
 pub returns-then-not-flags_allowed : goal.returns-then-not-flags_allowed
 returns-then-not-flags_allowed c =
@@ -25,7 +25,7 @@ returns-then-not-flags_allowed c =
     let t = a.tacks.now in
     let p = parts_in t a.flags in
     bad-part (good_two p) (bytes_of_two p) a.out.now
-    (bad-flags t a.flags (sym c.flags_allowed.ensures ∙ not-true _ c.if-not-flags_allowed.true))
+    (bad-flags t a.flags (sym c.flags_allowed.ensures ∙ c.if-not-flags_allowed.true))
 
 pub returns-then-out-n : goal.returns-then-out-n
 returns-then-out-n c =
@@ -33,13 +33,13 @@ returns-then-out-n c =
     let t = a.tacks.now in
     let p = parts_in t a.flags in
     no-space (good_two p) (bytes_of_two p) a.out.now
-    (in-good t a.flags (sym c.tacks_length.ensures ∙ not-false _ c.if-not-tacks_length.false) (sym c.flags_allowed.ensures ∙ not-false _ c.if-not-flags_allowed.false))
+    (in-good t a.flags (sym c.tacks_length.ensures ∙ c.if-not-tacks_length.false) (sym c.flags_allowed.ensures ∙ c.if-not-flags_allowed.false))
     (omega (arith, bytes-length-two t a.flags))
 
 pub put_extension-requires : goal.put_extension-requires
 put_extension-requires c =
     let t = c.args.tacks.now in
-    let w = tacks-between (length t) (sym c.tacks_length.ensures ∙ not-false _ c.if-not-tacks_length.false) in
+    let w = tacks-between (length t) (sym c.tacks_length.ensures ∙ c.if-not-tacks_length.false) in
     (omega arith, omega arith)
 
 pub returns : goal.returns
@@ -50,6 +50,6 @@ returns c =
     let p = parts_in t a.flags in
     let w =
     written (good_two p) (bytes_of_two p) a.out.now
-    (in-good t a.flags (sym c.tacks_length.ensures ∙ not-false _ c.if-not-tacks_length.false) (sym c.flags_allowed.ensures ∙ not-false _ c.if-not-flags_allowed.false))
+    (in-good t a.flags (sym c.tacks_length.ensures ∙ c.if-not-tacks_length.false) (sym c.flags_allowed.ensures ∙ c.if-not-flags_allowed.false))
     (omega (arith, bytes-length-two t a.flags, c.if-out-n.false)) in
-    (ap Written e.0 ∙ w.0, e.1 ∙ w.1)
+    record { answer = ap Written e.0 ∙ w.0; written = e.1 ∙ w.1 }
