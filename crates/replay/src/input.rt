@@ -3,7 +3,8 @@ ghost use Rattle.std.specs.Prelude.{◌≡◌, ◌+◌, ◌≤◌, ◌<◌, leng
 ghost use Rattle.octets.specs.Octets.{part, put};
 ghost use Rattle.replay.specs.Progress.{FilledWithin};
 
-use libc::STDIN_FILENO;
+use std::io;
+use std::io::{ErrorKind, Read};
 
 // What a read gave: so many bytes now stand at the start; the input has ended; or it failed.
 #[derive(Clone, Copy)]
@@ -25,23 +26,27 @@ fn move_to_front(s: &mut [u8], from: usize, n: usize)
     }
 }
 
+// Says on standard error what failed, and how.
+pub fn fail(rt: &HostRuntime, what: &str, error: io::Error) {
+    let _ = eprintln!(rt; "{what}: {error}");
+}
+
 // Moves the n bytes from `from` to the front, and makes one read behind them. A read that a signal stopped gives no bytes.
-pub fn fill(bytes: &mut [u8], from: usize, n: usize) -> Filled
+pub fn fill(rt: &HostRuntime, bytes: &mut [u8], from: usize, n: usize) -> Filled
     requires { (from + n ≤ length bytes.old) × (n < length bytes.old) }
     ensures { FilledWithin (length bytes.old) result }
 {
     move_to_front(bytes, from, n);
-    let space = &mut bytes[n..];
-    let got = libc::read(STDIN_FILENO, space);
-    if got < 0 {
-        if os::errno() == libc::EINTR {
-            return Filled::To(n);
+    let mut input = rt.stdin();
+    match input.read(&mut bytes[n..]) {
+        Ok(0) => Filled::Ended,
+        Ok(more) => Filled::To(n + more),
+        Err(error) => {
+            if error.kind() == ErrorKind::Interrupted {
+                return Filled::To(n);
+            }
+            fail(rt, "replay: standard input", error);
+            Filled::Failed
         }
-        return Filled::Failed;
     }
-    let more = io::count(got, space);
-    if more == 0 {
-        return Filled::Ended;
-    }
-    Filled::To(n + more)
 }

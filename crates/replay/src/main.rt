@@ -1,10 +1,12 @@
 // Replays a night: recorded calls of any number from standard input, the report to standard output as it goes. With the argument
 // `tally` the tally of the numbers goes to standard error at the end.
 #![tactic(auto)]
+
 mod input;
 mod turns;
 
-use libc::STDERR_FILENO;
+use std::env::{Env, FillError};
+use std::io;
 use tally::Tally;
 
 #[derive(Clone, Copy)]
@@ -14,19 +16,27 @@ enum Asked {
     Other,
 }
 
-fn wish() -> Asked {
-    let count = os::arg_count();
-    if count < 2 {
+// Whether the program has an argument of this number.
+fn has_argument(rt: &HostRuntime, number: usize) -> bool {
+    let mut word = [0u8; 8];
+    match rt.arg(number, &mut word) {
+        Ok(_) => true,
+        Err(FillError::TooLong) => true,
+        Err(FillError::NotPresent) => false,
+    }
+}
+
+fn wish(rt: &HostRuntime) -> Asked {
+    if !has_argument(rt, 1) {
         return Asked::Report;
     }
-    if 2 < count {
+    if has_argument(rt, 2) {
         return Asked::Other;
     }
     let mut word = [0u8; 8];
-    let n = os::arg(1, &mut word);
-    if n != 5 {
+    let Ok(5) = rt.arg(1, &mut word) else {
         return Asked::Other;
-    }
+    };
     if octets::same_at(&word, 0, b"tally") {
         return Asked::Tally;
     }
@@ -34,34 +44,32 @@ fn wish() -> Asked {
 }
 
 // A line for each number that was answered: the number, and how often.
-fn show_tally(tally: Tally) {
+fn show_tally(rt: &HostRuntime, tally: Tally) -> io::Result<()> {
     let mut number: u8 = 0;
     while number < 32 {
         let times = tally::times(tally, number);
         if 0 < times {
-            io::print_decimal(STDERR_FILENO, number as u64);
-            io::write_all(STDERR_FILENO, b" ");
-            io::print_decimal(STDERR_FILENO, times as u64);
-            io::write_all(STDERR_FILENO, b"\n");
+            eprintln!(rt; "{number} {times}")?;
         }
         number += 1;
     }
+    Ok(())
 }
 
-fn main() {
-    match wish() {
+fn main(rt: HostRuntime) -> io::Result<()> {
+    match wish(&rt) {
         Asked::Report => {
-            turns::replay();
+            turns::replay(&rt);
+            Ok(())
         }
         Asked::Tally => {
-            let tally = turns::replay();
-            show_tally(tally);
+            let tally = turns::replay(&rt);
+            show_tally(&rt, tally)
         }
         Asked::Other => {
-            io::write_all(
-                STDERR_FILENO,
-                b"usage: replay [tally] < NIGHT\nreads a night of recorded calls and writes its report; `tally` adds the numbers' counts on standard error\n",
-            );
+            eprintln!(rt;
+                "usage: replay [tally] < NIGHT\nreads a night of recorded calls and writes its report; `tally` adds the numbers' counts on standard error"
+            )
         }
     }
 }

@@ -5,12 +5,12 @@ ghost use Rattle.replay.specs.Progress.{InOrder, Reached, Tallied};
 
 use crate::input;
 use crate::input::Filled;
-use libc::STDOUT_FILENO;
 use night_play::Turn;
 use night_report::text;
+use std::io::Write;
 use tally::Tally;
 
-// The text has room for another line up to here: io's large buffer less the longest line.
+// The text has room for another line up to here: 65,536 bytes less the longest line.
 const LAST_LINE_AT: usize = 65536 - 31;
 
 // How far a replay has come: the bytes that are read and not yet played, the next call's index, the end of the text that is not
@@ -39,40 +39,43 @@ fn stopped(index: u64, tally: Tally) -> Progress
 }
 
 // Writes the lines up to `end`, and says whether that worked.
-fn write(lines: &[u8], end: usize) -> bool
+fn write(rt: &HostRuntime, lines: &[u8], end: usize) -> bool
     requires { end ≤ length lines.now }
 {
-    if io::write_all(STDOUT_FILENO, &lines[0..end]) {
-        return true;
+    let mut output = rt.stdout();
+    match output.write_all(&lines[0..end]) {
+        Ok(()) => true,
+        Err(error) => {
+            input::fail(rt, "replay: standard output", error);
+            false
+        }
     }
-    os::fail(b"replay: standard output");
-    false
 }
 
 // Writes what is left of the report, and its last line: `total` behind a whole night, `bad` behind any other.
-fn close(lines: &mut [u8], at: usize, index: u64, whole: bool)
+fn close(rt: &HostRuntime, lines: &mut [u8], at: usize, index: u64, whole: bool)
     requires { at + 31 ≤ length lines.old }
 {
     if whole {
         let end = text::put_total(lines, at, index);
-        write(lines, end);
+        write(rt, lines, end);
         return;
     }
     let end = text::put_bad(lines, at);
-    write(lines, end);
+    write(rt, lines, end);
 }
 
 // Where the call in front is cut off: what is played is written before the program waits for more.
-fn read_more(bytes: &mut [u8], lines: &mut [u8], p: Progress) -> Progress
+fn read_more(rt: &HostRuntime, bytes: &mut [u8], lines: &mut [u8], p: Progress) -> Progress
     requires { InOrder p × (p.to < p.from + 4452) × (length bytes.old ≡ 65536) × (length lines.old ≡ 65536) }
     ensures { InOrder result × (result.index ≡ p.index) × (result.tally ≡ p.tally) }
 {
     let tally = p.tally;
-    if !write(lines, p.at) {
+    if !write(rt, lines, p.at) {
         return stopped(p.index, tally);
     }
     let left = p.to - p.from;
-    match input::fill(bytes, p.from, left) {
+    match input::fill(rt, bytes, p.from, left) {
         Filled::To(end) => Progress {
             from: 0,
             to: end,
@@ -82,18 +85,15 @@ fn read_more(bytes: &mut [u8], lines: &mut [u8], p: Progress) -> Progress
             goes_on: true,
         },
         Filled::Ended => {
-            close(lines, 0, p.index, left == 0);
+            close(rt, lines, 0, p.index, left == 0);
             stopped(p.index, tally)
         }
-        Filled::Failed => {
-            os::fail(b"replay: standard input");
-            stopped(p.index, tally)
-        }
+        Filled::Failed => stopped(p.index, tally),
     }
 }
 
 // Room for another line: the lines are written where they fill the text.
-fn make_room(lines: &[u8], p: Progress) -> Progress
+fn make_room(rt: &HostRuntime, lines: &[u8], p: Progress) -> Progress
     requires { (p.from ≤ p.to) × (p.to ≤ 65536) × (p.at ≤ 65536) × (length lines.now ≡ 65536) }
     ensures { InOrder result × (result.index ≡ p.index) × (result.tally ≡ p.tally) }
 {
@@ -101,7 +101,7 @@ fn make_room(lines: &[u8], p: Progress) -> Progress
         return p;
     }
     let tally = p.tally;
-    if !write(lines, p.at) {
+    if !write(rt, lines, p.at) {
         return stopped(p.index, tally);
     }
     Progress {
@@ -115,7 +115,13 @@ fn make_room(lines: &[u8], p: Progress) -> Progress
 }
 
 // One turn.
-fn turn(area: &mut [u8], bytes: &mut [u8], lines: &mut [u8], p: Progress) -> Progress
+fn turn(
+    rt: &HostRuntime,
+    area: &mut [u8],
+    bytes: &mut [u8],
+    lines: &mut [u8],
+    p: Progress,
+) -> Progress
     requires { InOrder p × (p.index < 18446744073709551615) × Reached area.old p.index p.tally.counts × (length bytes.old ≡ 65536) × (length lines.old ≡ 65536) }
     ensures { InOrder result × (result.index ≤ p.index + 1) × Reached area.new result.index result.tally.counts }
 {
@@ -131,6 +137,7 @@ fn turn(area: &mut [u8], bytes: &mut [u8], lines: &mut [u8], p: Progress) -> Pro
             end,
             number: _,
         } => make_room(
+            rt,
             lines,
             Progress {
                 from: from + taken,
@@ -141,16 +148,16 @@ fn turn(area: &mut [u8], bytes: &mut [u8], lines: &mut [u8], p: Progress) -> Pro
                 goes_on: true,
             },
         ),
-        Turn::CutOff => read_more(bytes, lines, p),
+        Turn::CutOff => read_more(rt, bytes, lines, p),
         Turn::Bad => {
-            close(lines, p.at, p.index, false);
+            close(rt, lines, p.at, p.index, false);
             stopped(p.index, counted)
         }
     }
 }
 
 // Turn after turn. A night of so many calls that they could not be counted does not end in any lifetime.
-fn run(area: &mut [u8], bytes: &mut [u8], lines: &mut [u8]) -> Tally
+fn run(rt: &HostRuntime, area: &mut [u8], bytes: &mut [u8], lines: &mut [u8]) -> Tally
     requires { (area.old ≡ area_of false []) × (length bytes.old ≡ 65536) × (length lines.old ≡ 65536) }
     ensures { Tallied result.counts }
 {
@@ -167,18 +174,18 @@ fn run(area: &mut [u8], bytes: &mut [u8], lines: &mut [u8]) -> Tally
         if !p.goes_on {
             return p.tally;
         }
-        p = turn(area, bytes, lines, p);
+        p = turn(rt, area, bytes, lines, p);
         turns -= 1;
     }
     p.tally
 }
 
 // A whole night, from the empty table of edition one.
-pub fn replay() -> Tally
+pub fn replay(rt: &HostRuntime) -> Tally
     ensures { Tallied result.counts }
 {
     let mut area = [0u8; 39432];
-    let mut bytes = io::large_buffer();
-    let mut lines = io::large_buffer();
-    run(&mut area, &mut bytes, &mut lines)
+    let mut bytes = [0u8; 65536];
+    let mut lines = [0u8; 65536];
+    run(rt, &mut area, &mut bytes, &mut lines)
 }

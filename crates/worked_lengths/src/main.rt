@@ -1,15 +1,14 @@
 // The worked lengths of document 01: extensions of 4, 132, 170 and 1,194 bytes, names at their limits. A line each, the answer
 // behind it; the stored output is the paper's.
 #![tactic(auto)]
-use libc::STDOUT_FILENO;
+
+use std::io;
 use tack_extension::answers::Writing;
 use tack_extension::reader;
 use tack_extension::reader::Reading;
 
-fn say(words: &[u8], n: u64) {
-    io::write_all(STDOUT_FILENO, words);
-    io::print_decimal(STDOUT_FILENO, n);
-    io::write_all(STDOUT_FILENO, b"\n");
+fn say(rt: &HostRuntime, words: &str, n: u64) -> io::Result<()> {
+    println!(rt; "{words}: {n}")
 }
 
 // The number of an answer, or the bytes that it wrote.
@@ -71,23 +70,24 @@ fn signed(tack_length: usize) -> u64 {
     outcome(extension_writer::write_signed_bytes(&tack[0..tack_length], &mut out))
 }
 
-fn extensions() {
-    say(b"neither tack nor break signature: ", written(0, 0, 2048));
-    say(b"a tack alone: ", written(166, 0, 2048));
-    say(b"one break signature alone: ", written(0, 128, 2048));
+fn extensions(rt: &HostRuntime) -> io::Result<()> {
+    say(rt, "neither tack nor break signature", written(0, 0, 2048))?;
+    say(rt, "a tack alone", written(166, 0, 2048))?;
+    say(rt, "one break signature alone", written(0, 128, 2048))?;
     say(
-        b"a tack and eight break signatures: ",
+        rt,
+        "a tack and eight break signatures",
         written(166, 1024, 2048),
-    );
-    say(b"the same into 1,194 bytes: ", written(166, 1024, 1194));
-    say(b"the same into 1,193 bytes: ", written(166, 1024, 1193));
-    say(b"nine break signatures: ", written(166, 1152, 2048));
-    say(b"a tack of 165 bytes: ", written(165, 0, 2048));
-    say(b"the longest extension read: ", read(1194));
-    say(b"one byte less: ", read(1193));
-    say(b"one byte more: ", read(1195));
-    say(b"the bytes to be signed: ", signed(166));
-    say(b"the same for 167 bytes: ", signed(167));
+    )?;
+    say(rt, "the same into 1,194 bytes", written(166, 1024, 1194))?;
+    say(rt, "the same into 1,193 bytes", written(166, 1024, 1193))?;
+    say(rt, "nine break signatures", written(166, 1152, 2048))?;
+    say(rt, "a tack of 165 bytes", written(165, 0, 2048))?;
+    say(rt, "the longest extension read", read(1194))?;
+    say(rt, "one byte less", read(1193))?;
+    say(rt, "one byte more", read(1195))?;
+    say(rt, "the bytes to be signed", signed(166))?;
+    say(rt, "the same for 167 bytes", signed(167))
 }
 
 fn answer(well_formed: bool) -> u64 {
@@ -116,11 +116,11 @@ fn name(length: usize) -> u64 {
     answer(host_name::well_formed(&bytes[0..length]))
 }
 
-fn main() {
-    extensions();
-    say(b"a label of 63 bytes: ", label(63));
-    say(b"a label of 64 bytes: ", label(64));
-    say(b"a name of 251 bytes: ", name(251));
-    say(b"a name of 253 bytes: ", name(253));
-    say(b"a name of 254 bytes: ", name(254));
+fn main(rt: HostRuntime) -> io::Result<()> {
+    extensions(&rt)?;
+    say(&rt, "a label of 63 bytes", label(63))?;
+    say(&rt, "a label of 64 bytes", label(64))?;
+    say(&rt, "a name of 251 bytes", name(251))?;
+    say(&rt, "a name of 253 bytes", name(253))?;
+    say(&rt, "a name of 254 bytes", name(254))
 }
