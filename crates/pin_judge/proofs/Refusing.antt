@@ -1,14 +1,12 @@
 -- A refusal of a connection: at 23 the area after step 1, at each other one the area as it was.
 use mathlib.Core.Path.{◌≡◌, refl, sym, ap, ◌∙◌}
 use mathlib.Core.Bool.{false}
-use mathlib.Core.List.{List, [], ◌∷◌}
+use mathlib.Core.List.{List}
 use mathlib.Core.Option.{Option}
 use Prim.Native.Nat.{ℕ}
 use native.Mathlib.Omega.{arith}
 use lib.Dec.{eqb}
 use lib.ListN.{length}
-use types.Run.{OneOf, miss}
-use denote.Enum.Declared.{tag_of}
 use Rattle.pin_model.specs.Layout.{encode, decode}
 use Rattle.pin_model.specs.Connection.{unless_empty}
 use Rattle.pin_model.specs.Judge.{raise, raise_shown}
@@ -16,16 +14,11 @@ use Rattle.pin_model.specs.Calls.{refused_with}
 use Rattle.pin_model.proofs.TackShown.{shown}
 use Rattle.pin_answers.specs.Numbers.{refusal_number}
 use Rattle.pin_answers.specs.declared.Refusal.{Refusal}
-use Rattle.pin_answers.specs.contracts.Refusal.{the_type}
 use Rattle.pin_answers.specs.declared.Refusal.TheVariants.{AreaLength, Damaged, NameMalformed, ClockAboveLimit, ClockBeforeLatest, HandshakeUnfinished, ExtensionMalformed, BreakIncorrect, KeyNoPoint, GenerationBelowOwn, TargetUnequal, SignatureIncorrect, Revoked, Expired, OneKeyTwice, OtherEdition}
 use Rattle.pin_records.specs.Holds.{Holds}
 
--- the tags of `Refusal` but that of `Expired`
-abbrev other_tags : List ℕ
-other_tags = 0 ∷ 1 ∷ 2 ∷ 3 ∷ 4 ∷ 5 ∷ 6 ∷ 7 ∷ 8 ∷ 9 ∷ 10 ∷ 11 ∷ 12 ∷ 14 ∷ 15 ∷ []
-
 abbrev pub Other : Refusal → Type 0
-Other r = OneOf other_tags (tag_of the_type r)
+Other r = r ≡ Expired → ⊥
 
 other-number : (r : Refusal) → Other r → eqb (refusal_number r) 23 ≡ false
 other-number AreaLength h = refl
@@ -41,7 +34,7 @@ other-number GenerationBelowOwn h = refl
 other-number TargetUnequal h = refl
 other-number SignatureIncorrect h = refl
 other-number Revoked h = refl
-other-number Expired h = absurd (miss other_tags 13 tt h)
+other-number Expired h = absurd (h refl)
 other-number OneKeyTwice h = refl
 other-number OtherEdition h = refl
 

@@ -1,5 +1,6 @@
 // Judging one connection for edition one: the refusals in the paper's order, then its steps.
 #![tactic(auto)]
+
 ghost use Rattle.std.specs.Prelude.{◌≡◌, true, false, ◌||◌, map, ◌≤◌, length};
 ghost use Rattle.tack_extension.specs.Extension.{parse, tack_length, tack_part, breaks_length, breaks_part};
 ghost use Rattle.tack_extension.specs.Tack.{break_key, break_signatures};

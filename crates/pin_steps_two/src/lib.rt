@@ -1,6 +1,7 @@
 // The steps of judging in edition two, in the paper's order, each on an area that stores a table. The two tacks of a call come as
 // two parts of its extension; an empty part is no tack.
 #![tactic(auto)]
+
 pub mod apply;
 pub mod learn;
 pub mod matching;

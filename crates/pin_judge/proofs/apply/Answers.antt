@@ -17,12 +17,12 @@ verdict_for-requires c =
     let a = c.args in (
       holds-stored c.store_latest.ensures,
       c.requires.1,
-      still_one a.enabled (a.enabled || a.learn-disabled) a.name.now a.clock.0 a.tack.now a.broken.now (decode a.area.now)
+      still_one a.enabled (a.enabled || a.learn_disabled) a.name.now a.clock.0 a.tack.now a.broken.now (decode a.area.now)
           c.learn-no_room.ensures c.break_keys.ensures c.store_latest.ensures c.requires.0.admitted.of_one,
     )
 
 pub returns : goal.returns
 returns c =
     let a = c.args in
-    applied a.enabled (a.enabled || a.learn-disabled) a.name.now a.clock.0 a.tack.now a.broken.now (decode a.area.now)
+    applied a.enabled (a.enabled || a.learn_disabled) a.name.now a.clock.0 a.tack.now a.broken.now (decode a.area.now)
     c.learn-no_room.ensures c.break_keys.ensures c.store_latest.ensures _ c.verdict_for.ensures

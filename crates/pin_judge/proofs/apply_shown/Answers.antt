@@ -15,20 +15,20 @@ use Rattle.pin_judge.proofs.apply_shown.Goals as goal
 
 pub returns-in_default : goal.returns-in_default
 returns-in_default c =
-    absurd (true≢false (sym (malformed c.args.extension.now (sym c.read.ensures ∙ c.enum_told-1.given.1)) ∙ c.requires.1))
+    absurd (true≢false (sym (malformed c.args.extension.now (sym c.in_default.ensures)) ∙ c.requires.1))
 
 pub apply-requires : goal.apply-requires
 apply-requires c =
-    let z = well-shown c.args.extension.now _ (sym c.read.ensures ∙ c.activation-1.given.1) in
+    let z = well-shown c.args.extension.now _ (sym c.in-WellFormed.ensures) in
     (c.requires.0, rw c.tack_part.ensures z.tack, rw c.breaks_part.ensures z.breaks)
 
 pub returns : goal.returns
 returns c =
     let a = c.args in
-    let reading = sym c.read.ensures ∙ c.activation-1.given.1 in
+    let reading = sym c.in-WellFormed.ensures in
     let tack = c.tack_part.ensures in
     let breaks = c.breaks_part.ensures in
     let w = c.apply.ensures in (
-      w.0 ∙ by-reading (λ (on : Bool) (x y : List ℕ). steps_answer on (on || a.learn-disabled) a.name.now a.clock.0 (unless_empty x) (map break_key (break_signatures y)) (decode a.area.now)) a.extension.now _ reading tack breaks,
-      w.1 ∙ by-reading (λ (on : Bool) (x y : List ℕ). encode (steps on (on || a.learn-disabled) a.name.now a.clock.0 (unless_empty x) (map break_key (break_signatures y)) (decode a.area.now))) a.extension.now _ reading tack breaks,
+      w.0 ∙ by-reading (λ (on : Bool) (x y : List ℕ). steps_answer on (on || a.learn_disabled) a.name.now a.clock.0 (unless_empty x) (map break_key (break_signatures y)) (decode a.area.now)) a.extension.now _ reading tack breaks,
+      w.1 ∙ by-reading (λ (on : Bool) (x y : List ℕ). encode (steps on (on || a.learn_disabled) a.name.now a.clock.0 (unless_empty x) (map break_key (break_signatures y)) (decode a.area.now))) a.extension.now _ reading tack breaks,
     )

@@ -8,7 +8,9 @@ use Rattle.pin_judge.proofs.Passing.{refused-area}
 use Rattle.pin_judge.proofs.judge.Goals as goal
 
 pub returns-in-Refused : goal.returns-in-Refused
-returns-in-Refused c = refused-area _ _ _ (sym c.check_area.ensures ∙ ap checked_number c.refusal-1.given.1)
+returns-in-Refused c =
+    let w = refused-area _ _ _ (sym c.in-Refused.ensures) in
+    record { answer = w.0; area = w.1 }
 
 pub judge_sound_area-requires : goal.judge_sound_area-requires
-judge_sound_area-requires c = (area-facts c.args.area.now [] (sym c.check_area.ensures ∙ ap checked_number c.enum_told-1.given.1)).area_sound
+judge_sound_area-requires c = (area-facts c.args.area.now [] (sym c.in_default.ensures)).area_sound

@@ -14,18 +14,20 @@ refuse-requires c =
     let a = c.args in (
       c.requires.1.stored,
       tack-came a.clock.0 a.name.now a.extension.now a.hash.now a.checks a.area.now _
-          (sym c.check_connection.ensures ∙ ap checked_number c.refusal-1.given.1),
+          (sym c.in-Refused.ensures),
     )
 
 pub returns-in-Refused : goal.returns-in-Refused
 returns-in-Refused c =
     let a = c.args in
-    refused-so a.clock.0 a.name.now a.extension.now a.hash.now a.checks a.area.now c.requires.0 c.requires.1 _
-    (sym c.check_connection.ensures ∙ ap checked_number c.refusal-1.given.1)
-    _ _ c.refuse.ensures
+    let w = refused-so a.clock.0 a.name.now a.extension.now a.hash.now a.checks a.area.now c.requires.0 c.requires.1 _
+    (sym c.in-Refused.ensures)
+    _ _ c.refuse.ensures in
+    record { answer = w.0; area = w.1 }
 
 pub returns : goal.returns
 returns c =
     let a = c.args in
-    judged-so a.clock.0 a.name.now a.extension.now a.hash.now a.checks a.area.now c.requires.0 c.requires.1
-    (sym c.check_connection.ensures ∙ ap checked_number c.enum_told-1.given.1) _ _ c.apply_shown.ensures
+    let w = judged-so a.clock.0 a.name.now a.extension.now a.hash.now a.checks a.area.now c.requires.0 c.requires.1
+    (sym c.in_default.ensures) _ _ c.apply_shown.ensures in
+    record { answer = w.0; area = w.1 }

@@ -13,7 +13,7 @@ use Rattle.pin_judge.proofs.learn.Goals as goal
 pub returns-then-tack-eq0 : goal.returns-then-tack-eq0
 returns-then-tack-eq0 c =
     let a = c.args in
-    nothing-shown a.enabled (a.enabled || a.learn-disabled) a.name.now a.clock.0 a.tack.now (decode a.area.now)
+    nothing-shown a.enabled (a.enabled || a.learn_disabled) a.name.now a.clock.0 a.tack.now (decode a.area.now)
     (not-shown a.tack.now c.if-tack-eq0.true) c.requires.0.admitted.stored
 
 pub raise_floor-requires : goal.raise_floor-requires
@@ -69,4 +69,4 @@ returns c =
     let a = c.args in
     let its = holds-decode c.raise_floor.ensures ∙ sym (not_extended a.name.now a.tack.now a.clock.0 (raise a.tack.now (decode a.area.now))) in
     rw c.if-enabled.false
-    (created false a.learn-disabled a.name.now a.clock.0 a.tack.now (decode a.area.now) _ its (shown a.tack.now c.if-tack-eq0.false) c.create_record-2.ensures)
+    (created false a.learn_disabled a.name.now a.clock.0 a.tack.now (decode a.area.now) _ its (shown a.tack.now c.if-tack-eq0.false) c.create_record-2.ensures)

@@ -10,14 +10,14 @@ use Rattle.pin_judge.proofs.refuse.Goals as goal
 
 pub raise_floor-requires : goal.raise_floor-requires
 raise_floor-requires c =
-    (c.requires.0, ap length c.tack_part.ensures ∙ c.requires.1 (omega (arith, ap refusal_number c.enum_told-1.given.1)))
+    (c.requires.0, ap length c.tack_part.ensures ∙ c.requires.1 (omega (arith, ap refusal_number c.in-Expired.is)))
 
 pub returns-in-Expired : goal.returns-in-Expired
 returns-in-Expired c =
-    let expired = c.enum_told-1.given.1 in
+    let expired = c.in-Expired.is in
     (refl, expired-left c.args.refusal _ _ expired (c.requires.1 (omega (arith, ap refusal_number expired))) c.tack_part.ensures c.raise_floor.ensures)
 
 pub returns : goal.returns
 returns c =
     let a = c.args in
-    (refl, other-left a.refusal (tack_part a.extension.now) a.area.now c.in_default.keys2)
+    (refl, other-left a.refusal (tack_part a.extension.now) a.area.now c.in_default.not-Expired)

@@ -11,30 +11,30 @@ use Rattle.pin_steps_two.proofs.learn.make_own.Goals as goal
 pub returns-in-At : goal.returns-in-At
 returns-in-At c =
     has-two c.args.name.now c.args.clock.0 c.args.tack.now c.requires.0
-    (two-there (name_is c.args.name.now) _ c.requires.0.fits.name_slots _ (sym c.enum_told-1.given.1 ∙ c.second_name.ensures))
+    (two-there (name_is c.args.name.now) _ c.requires.0.fits.name_slots _ c.in-At.ensures)
 
 pub returns-in_default-free_name : goal.returns-in_default-free_name
 returns-in_default-free_name c =
     no-name-slot c.args.name.now c.args.clock.0 c.args.tack.now c.requires.0 c.requires.4
-    (fewer-than-two (name_is c.args.name.now) _ c.requires.0.fits.name_slots (sym c.enum_told-in_default-1.given.1 ∙ c.second_name.ensures))
-    (names-full _ c.requires.0.fits.name_slots (sym c.enum_told-in_default-free_name-1.given.1 ∙ c.free_name.ensures))
+    (fewer-than-two (name_is c.args.name.now) _ c.requires.0.fits.name_slots c.in_default.ensures)
+    (names-full _ c.requires.0.fits.name_slots c.in_default-free_name.ensures)
 
 pub returns-then-not-key_fits : goal.returns-then-not-key_fits
 returns-then-not-key_fits c =
     no-key-slot c.args.name.now c.args.clock.0 c.args.tack.now c.requires.0 c.requires.4
-    (fewer-than-two (name_is c.args.name.now) _ c.requires.0.fits.name_slots (sym c.enum_told-in_default-1.given.1 ∙ c.second_name.ensures))
-    (name-free-at _ c.requires.0.fits.name_slots _ (sym c.n-1.given.1 ∙ c.free_name.ensures))
+    (fewer-than-two (name_is c.args.name.now) _ c.requires.0.fits.name_slots c.in_default.ensures)
+    (name-free-at _ c.requires.0.fits.name_slots _ c.in-At-free_name.ensures)
     (sym c.key_fits.ensures ∙ c.if-not-key_fits.true)
 
 pub store_new-requires : goal.store_new-requires
 store_new-requires c =
-    let free = name-free-at _ c.requires.0.fits.name_slots _ (sym c.n-1.given.1 ∙ c.free_name.ensures) in (
+    let free = name-free-at _ c.requires.0.fits.name_slots _ c.in-At-free_name.ensures in (
       c.requires.0,
       free.below,
       c.requires.2,
       c.requires.3,
       own_fresh c.args.name.now c.args.clock.0 c.args.tack.now c.requires.0 c.requires.4
-          (fewer-than-two (name_is c.args.name.now) _ c.requires.0.fits.name_slots (sym c.enum_told-in_default-1.given.1 ∙ c.second_name.ensures))
+          (fewer-than-two (name_is c.args.name.now) _ c.requires.0.fits.name_slots c.in_default.ensures)
           free c.requires.1.two,
       sym c.key_fits.ensures ∙ c.if-not-key_fits.false,
     )
@@ -42,6 +42,6 @@ store_new-requires c =
 pub returns : goal.returns
 returns c =
     own-made c.args.name.now c.args.clock.0 c.args.tack.now c.requires.0 c.requires.4
-    (fewer-than-two (name_is c.args.name.now) _ c.requires.0.fits.name_slots (sym c.enum_told-in_default-1.given.1 ∙ c.second_name.ensures))
-    (name-free-at _ c.requires.0.fits.name_slots _ (sym c.n-1.given.1 ∙ c.free_name.ensures))
+    (fewer-than-two (name_is c.args.name.now) _ c.requires.0.fits.name_slots c.in_default.ensures)
+    (name-free-at _ c.requires.0.fits.name_slots _ c.in-At-free_name.ensures)
     (sym c.key_fits.ensures ∙ c.if-not-key_fits.false) c.store_new.ensures

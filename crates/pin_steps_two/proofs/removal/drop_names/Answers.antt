@@ -1,5 +1,4 @@
 use mathlib.Core.Path.{sym, ◌∙◌}
-use mathlib.Core.Logic.{⊎_elim}
 use Prim.Native.Nat.{◌-◌, ◌≤◌}
 use native.Mathlib.Omega.{arith}
 use borrow.Author.Rules.{rules}
@@ -10,6 +9,7 @@ use Rattle.pin_records.proofs.HeldSlots.{holds-stored}
 use Rattle.pin_records.proofs.DroppedNames.{dropped, drop-stays, drop-goes, drop-end}
 use Rattle.pin_refusals_two.specs.Parts.{tacks_by}
 use Rattle.pin_steps_two.proofs.removal.drop_names.Goals as goal
+use Rattle.pin_steps_two.proofs.removal.drop_names.Goals.{then-is_removed, else-is_removed}
 
 pub loop-n-init : goal.loop-n-init
 loop-n-init c = (omega arith, c.requires.0)
@@ -24,10 +24,10 @@ pub loop-n-preserved : goal.loop-n-preserved
 loop-n-preserved c =
     let l = c.loop-n in
     let gone = is_removed c.args.name.now c.args.clock.0 (tacks_by c.args.first.now c.args.second.now c.args.flags) in
-    ⊎_elim
-    (λ w. (omega arith, drop-goes gone (decode c.args.area.now) l.n l.invariant.1 w.5 (sym c.is_removed.ensures ∙ w.0.taken) w.2.ensures))
-    (λ w. (omega arith, drop-stays gone (decode c.args.area.now) l.n l.invariant.1 w.1 (sym c.is_removed.ensures ∙ w.0.left)))
-    c.if-is_removed.branch
+    elim c.if-is_removed.branch [
+      | then-is_removed w ↦ (omega arith, drop-goes gone (decode c.args.area.now) l.n l.invariant.1 w.area-is (sym c.is_removed.ensures ∙ w.if-is_removed.true) w.clear_name.ensures)
+      | else-is_removed w ↦ (omega arith, drop-stays gone (decode c.args.area.now) l.n l.invariant.1 w.area-is (sym c.is_removed.ensures ∙ w.if-is_removed.false))
+    ]
 
 pub shape_of-area : goal.shape_of-area
 shape_of-area c = c.loop-n.invariant.1.long ∙ sym c.requires.0.long
