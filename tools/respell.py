@@ -14,7 +14,7 @@ import re
 import sys
 
 TOKEN = re.compile(r"[A-Za-z_][\w'-]*")
-PART = re.compile(r"[a-z][a-z0-9_]*[A-Z]")
+PART = re.compile(r"[a-z](?:[a-z0-9_]*[a-z0-9])?[A-Z]")
 # bytes in hexadecimal, and a name in capitals, are no words
 KEPT = re.compile(r"x[0-9A-F]{2}$|dESK")
 

@@ -8,22 +8,6 @@ use Rattle.night_play.proofs.OneTurn.{call-read, part-between}
 use borrow.Author.Rules.{rules}
 use Rattle.night_play.proofs.judge_call.Goals as goal
 
--- TODO need slice-bounds-judge-sound-area-start
--- part-judge-sound-area-start : tie.Need-slice-bounds-judge-sound-area-start
--- part-judge-sound-area-start c = search rules
-
--- TODO need slice-bounds-judge-sound-area-end
--- part-judge-sound-area-end : tie.Need-slice-bounds-judge-sound-area-end
--- part-judge-sound-area-end c = search rules
-
--- TODO need slice-bounds-judge-sound-area-start-2
--- part-judge-sound-area-start-2 : tie.Need-slice-bounds-judge-sound-area-start-2
--- part-judge-sound-area-start-2 c = search rules
-
--- TODO need slice-bounds-judge-sound-area-end-2
--- part-judge-sound-area-end-2 : tie.Need-slice-bounds-judge-sound-area-end-2
--- part-judge-sound-area-end-2 c = search rules
-
 pub judge_sound_area-requires : goal.judge_sound_area-requires
 judge_sound_area-requires c = c.requires.1
 
@@ -31,7 +15,7 @@ pub returns : goal.returns
 unfolding part
 returns c =
     let a = c.args in
-    let same = call-read a.night.now a.name-end a.extension-came a.after c.u32_at.ensures refl
-    c.extension_at.ensures (part-between a.night.now (a.name-end + 8) 32) c.checks_at.ensures in
+    let same = call-read a.night.now a.name_end a.extension_came a.after c.u32_at.ensures refl
+    c.extension_at.ensures (part-between a.night.now (a.name_end + 8) 32) c.checks_at.ensures in
     let e = c.judge_sound_area.ensures in
-    record { answer = e.0 ∙ ap (λ (k : Connection). answered (judge k) a.area.now) same; area = e.1.0 ∙ ap (λ (k : Connection). area_left (judge k) a.area.now) same; sound = e.1.1 }
+    record { answer = e.answer ∙ ap (λ (k : Connection). answered (judge k) a.area.now) same; area = e.area ∙ ap (λ (k : Connection). area_left (judge k) a.area.now) same; sound = e.sound }

@@ -7,29 +7,29 @@ use Rattle.night_play.proofs.play_call.Goals as goal
 
 pub judge_call-judgement-requires : goal.judge_call-judgement-requires
 judge_call-judgement-requires c =
-    (placed _ _ c.take_call.ensures.places c.name_end-1.given.1, c.requires.1)
+    (c.in-Call.ensures.places, c.requires.1)
 
 pub returns-in-Call : goal.returns-in-Call
 returns-in-Call c =
     let a = c.args in
     let w =
     played-line a.index a.area.now a.night.now a.out.now a.at _ _ _ _
-    (called _ _ c.take_call.ensures.call c.name_end-1.given.1)
-    (placed _ _ c.take_call.ensures.places c.name_end-1.given.1).within
+    c.in-Call.ensures.call
+    c.in-Call.ensures.places.within
     c.judge_call-judgement.ensures.answer c.judge_call-judgement.ensures.area
     c.judgement_number-number.ensures (judgement-alert c.judge_call-judgement.result) c.has_no_room.ensures c.put_line-end.ensures in
-    let fits = (placed _ _ c.take_call.ensures.places c.name_end-1.given.1).within in
+    let fits = c.in-Call.ensures.places.within in
     let size = line-length a.index c.judgement_number-number.result c.has_no_room.result (omega arith) (omega arith) in
     record { turn = w.turned; area = w.judged; line = w.written; sound = c.judge_call-judgement.ensures.sound; within = (fits, omega (arith, size, c.put_line-end.ensures.0)) }
 
 pub returns-in-CutOff : goal.returns-in-CutOff
 returns-in-CutOff c =
     let a = c.args in
-    let w = played-cut a.index a.area.now a.night.now a.out.now a.at _ (cut _ _ c.take_call.ensures.call c.enum_told-1.given.1) in
-    record { turn = w.turned; area = w.judged; line = w.written; sound = c.requires.1; within = cut-within _ _ c.take_call.ensures.places c.enum_told-1.given.1 }
+    let w = played-cut a.index a.area.now a.night.now a.out.now a.at _ c.in-CutOff.ensures.call in
+    record { turn = w.turned; area = w.judged; line = w.written; sound = c.requires.1; within = c.in-CutOff.ensures.places }
 
 pub returns-in-Bad : goal.returns-in-Bad
 returns-in-Bad c =
     let a = c.args in
-    let w = played-bad a.index a.area.now a.night.now a.out.now a.at _ (spoilt _ _ c.take_call.ensures.call c.enum_told-in-Bad-1.given.1) in
+    let w = played-bad a.index a.area.now a.night.now a.out.now a.at _ c.in-Bad.ensures.call in
     record { turn = w.turned; area = w.judged; line = w.written; sound = c.requires.1; within = tt }
