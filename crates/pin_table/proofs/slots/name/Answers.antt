@@ -2,7 +2,6 @@
 use Prim.Native.Nat.{◌+◌}
 use native.Mathlib.Omega.{arith}
 use lib.ListN.{get_or}
-use borrow.Author.Rules.{rules}
 use Rattle.octets.proofs.Parts.{part-lent}
 use Rattle.pin_table.proofs.slots.name.Goals as goal
 

@@ -1,7 +1,6 @@
 -- The slot is lent whole.
 use Prim.Native.Nat.{◌+◌, ◌*◌}
 use native.Mathlib.Omega.{arith}
-use borrow.Author.Rules.{rules}
 use Rattle.pin_model.specs.Layout.{name_slot}
 use Rattle.octets.proofs.Parts.{part-lent}
 use Rattle.pin_table.proofs.slots.name_slot.Goals as goal

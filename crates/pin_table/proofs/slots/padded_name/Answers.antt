@@ -1,6 +1,5 @@
 -- It is lent whole.
 use native.Mathlib.Omega.{arith}
-use borrow.Author.Rules.{rules}
 use Rattle.octets.proofs.Parts.{part-lent}
 use Rattle.pin_table.proofs.slots.padded_name.Goals as goal
 
