@@ -16,41 +16,44 @@ use Rattle.pin_judge_two.proofs.judge.Goals as goal
 
 pub returns-in-Refused : goal.returns-in-Refused
 returns-in-Refused c =
-    let it = connection c.args.clock c.args.name.now c.args.extension-came c.args.extension.now
+    let it = connection c.args.clock c.args.name.now c.args.extension_came c.args.extension.now
     c.args.hash.now c.args.checks in
-    let number = sym c.check_area.ensures ∙ ap checked_number c.refusal-1.given.1 in
-    as-it-came it c.args.area.now (refused-area (folded_connection it) c.args.area.now _ number)
+    let number = sym c.in-Refused.ensures in
+    let w = as-it-came it c.args.area.now (refused-area (folded_connection it) c.args.area.now _ number) in
+    record { answer = w.0; area = w.1 }
 
 pub is_two-requires : goal.is_two-requires
 is_two-requires c =
-    (rules-of _ (area-facts c.args.area.now [] (sym c.check_area.ensures ∙ ap checked_number c.enum_told-1.given.1)).area_sound).whole
+    (rules-of _ (area-facts c.args.area.now [] (sym c.in_default.ensures)).area_sound).whole
 
 pub returns-then-not-is_two : goal.returns-then-not-is_two
 returns-then-not-is_two c =
-    let it = connection c.args.clock c.args.name.now c.args.extension-came c.args.extension.now
+    let it = connection c.args.clock c.args.name.now c.args.extension_came c.args.extension.now
     c.args.hash.now c.args.checks in
-    let passed = sym c.check_area.ensures ∙ ap checked_number c.enum_told-1.given.1 in
-    as-it-came it c.args.area.now
+    let passed = sym c.in_default.ensures in
+    let w = as-it-came it c.args.area.now
     (refused-edition (folded_connection it) c.args.area.now (area-facts c.args.area.now [] passed).area_sound
-    (sym c.is_two.ensures ∙ c.if-not-is_two.true))
+    (sym c.is_two.ensures ∙ c.if-not-is_two.true)) in
+    record { answer = w.0; area = w.1 }
 
 pub slice_bounds-folded-end : goal.slice_bounds-folded-end
-slice_bounds-folded-end c = sym (room c.args.name.now c.fold-n.ensures)
+slice_bounds-folded-end c = sym (room c.args.name.now (c.fold-n.ensures.length, c.fold-n.ensures.bytes))
 
 pub slice_bounds-judge_folded-end : goal.slice_bounds-judge_folded-end
 slice_bounds-judge_folded-end c =
     let s = c.args.name.now in
     let wrote = c.fold-n.ensures in
-    sym (length-take-le _ _ (omega (arith, room s wrote, wrote.0, length-take 254 s)))
+    sym (length-take-le _ _ (omega (arith, room s (wrote.length, wrote.bytes), wrote.length, length-take 254 s)))
 
 pub judge_folded-requires : goal.judge_folded-requires
 judge_folded-requires c =
-    ((area-facts c.args.area.now [] (sym c.check_area.ensures ∙ ap checked_number c.enum_told-1.given.1)).area_sound, sym c.is_two.ensures ∙ c.if-not-is_two.false)
+    ((area-facts c.args.area.now [] (sym c.in_default.ensures)).area_sound, sym c.is_two.ensures ∙ c.if-not-is_two.false)
 
 pub returns : goal.returns
 returns c =
-    let it = connection c.args.clock c.args.name.now c.args.extension-came c.args.extension.now
+    let it = connection c.args.clock c.args.name.now c.args.extension_came c.args.extension.now
     c.args.hash.now c.args.checks in
-    let its = front c.args.name.now c.fold-n.ensures in
-    let w = c.judge_folded.ensures in
-    uncut it c.args.area.now its w.0 w.1
+    let its = front c.args.name.now (c.fold-n.ensures.length, c.fold-n.ensures.bytes) in
+    let e = c.judge_folded.ensures in
+    let w = uncut it c.args.area.now its e.answer e.area in
+    record { answer = w.0; area = w.1 }

@@ -1,4 +1,5 @@
 -- The tests' refusal, or the steps.
+use mathlib.Core.Path.{refl}
 use borrow.Author.Rules.{rules}
 use Rattle.pin_model.specs.Layout.{encode, decode}
 use Rattle.pin_refusals_two.specs.Parts.{tacks_by}
@@ -10,8 +11,9 @@ pub returns-in-Refused : goal.returns-in-Refused
 returns-in-Refused c =
     let tacks = tacks_by c.args.first.now c.args.second.now c.args.flags in
     let t = decode c.args.area.now in
-    by-refused c.check_tacks.ensures (steps_answer_two c.args.name.now c.args.clock.0 tacks t)
-    c.args.area.now (encode (steps_two c.args.name.now c.args.clock.0 tacks t)) c.refusal-1.given.1
+    let w = by-refused c.in-Refused.ensures (steps_answer_two c.args.name.now c.args.clock.0 tacks t)
+    c.args.area.now (encode (steps_two c.args.name.now c.args.clock.0 tacks t)) refl in
+    record { answer = w.0; area = w.1 }
 
 pub apply-requires : goal.apply-requires
 apply-requires c =
@@ -22,6 +24,7 @@ pub returns : goal.returns
 returns c =
     let tacks = tacks_by c.args.first.now c.args.second.now c.args.flags in
     let t = decode c.args.area.now in
-    by-passed c.check_tacks.ensures (steps_answer_two c.args.name.now c.args.clock.0 tacks t)
+    let w = by-passed c.in_default.ensures (steps_answer_two c.args.name.now c.args.clock.0 tacks t)
     c.args.area.now (encode (steps_two c.args.name.now c.args.clock.0 tacks t))
-    c.enum_told-1.given.1 c.apply.ensures.0 c.apply.ensures.1
+    refl c.apply.ensures.0 c.apply.ensures.1 in
+    record { answer = w.0; area = w.1 }
