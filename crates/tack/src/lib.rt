@@ -1,6 +1,7 @@
 // The C interface: include/tack.h declares these functions, and `rt staticlib tack` builds libtack.a. Each passes on to a
 // proved function, and its contract is that function's with the papers' numbers.
 #![tactic(auto)]
+
 pub mod edition_two;
 pub mod extension;
 pub mod name;

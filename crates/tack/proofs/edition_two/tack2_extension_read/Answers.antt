@@ -7,8 +7,8 @@ use Rattle.tack.proofs.edition_two.tack2_extension_read.Goals as goal
 
 pub returns-in-WellFormed : goal.returns-in-WellFormed
 unfolding reading_two_answer alert_of_two alert_of
-returns-in-WellFormed c = ap reading_two_answer (sym c.flags-1.given.1 ∙ c.read.ensures)
+returns-in-WellFormed c = ap reading_two_answer c.in-WellFormed.ensures
 
 pub returns-in-Malformed : goal.returns-in-Malformed
 unfolding reading_two_answer alert_of_two alert_of
-returns-in-Malformed c = ap reading_two_answer (sym c.enum_told-1.given.1 ∙ c.read.ensures)
+returns-in-Malformed c = ap reading_two_answer c.in-Malformed.ensures

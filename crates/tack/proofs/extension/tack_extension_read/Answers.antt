@@ -7,8 +7,8 @@ use Rattle.tack.proofs.extension.tack_extension_read.Goals as goal
 
 pub returns-in-WellFormed : goal.returns-in-WellFormed
 unfolding reading_answer alert_of
-returns-in-WellFormed c = ap reading_answer (sym c.activation-1.given.1 ∙ c.read.ensures)
+returns-in-WellFormed c = ap reading_answer c.in-WellFormed.ensures
 
 pub returns-in-Malformed : goal.returns-in-Malformed
 unfolding reading_answer alert_of
-returns-in-Malformed c = ap reading_answer (sym c.enum_told-1.given.1 ∙ c.read.ensures)
+returns-in-Malformed c = ap reading_answer c.in-Malformed.ensures

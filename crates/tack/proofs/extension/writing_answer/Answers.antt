@@ -7,12 +7,12 @@ use Rattle.tack.proofs.extension.writing_answer.Goals as goal
 
 pub returns-in-Written : goal.returns-in-Written
 unfolding writing_answer alert_of
-returns-in-Written c = ap writing_answer (sym c.w-1.given.1)
+returns-in-Written c = ap writing_answer (sym c.in-Written.is)
 
 pub returns-in-BadPart : goal.returns-in-BadPart
 unfolding writing_answer alert_of
-returns-in-BadPart c = ap writing_answer (sym c.enum_told-1.given.1)
+returns-in-BadPart c = ap writing_answer (sym c.in-BadPart.is)
 
 pub returns-in-NoSpace : goal.returns-in-NoSpace
 unfolding writing_answer alert_of
-returns-in-NoSpace c = ap writing_answer (sym c.enum_told-in-NoSpace-1.given.1)
+returns-in-NoSpace c = ap writing_answer (sym c.in-NoSpace.is)
