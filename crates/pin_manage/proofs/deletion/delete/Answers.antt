@@ -25,4 +25,4 @@ returns c =
     let a = c.args in
     let its = front a.name.now c.fold-n.ensures in
     let same = delete-handed a.name.now a.area.now in
-    let w = c.delete_folded.ensures in record { answer = w.0 ∙ ap (λ (name : List ℕ). answer (delete name) a.area.now) its ∙ same.0; area = w.1 ∙ ap (λ (name : List ℕ). area_after (delete name) a.area.now) its ∙ same.1 }
+    let w = c.delete_folded.ensures in record { answer = w.answer ∙ ap (λ (name : List ℕ). answer (delete name) a.area.now) its ∙ same.0; area = w.area ∙ ap (λ (name : List ℕ). area_after (delete name) a.area.now) its ∙ same.1 }
