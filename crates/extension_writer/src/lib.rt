@@ -1,5 +1,6 @@
 // The writers: the extension from its parts, and the bytes that a tack's signature covers.
 #![tactic(auto)]
+
 ghost use Rattle.std.specs.Prelude.{◌≡◌, ◌+◌, ◌≤◌, ◌<◌, length, eqb};
 ghost use Rattle.octets.specs.Octets.{put};
 ghost use Rattle.tack_extension.specs.Extension.{parts, good, bytes_of, good_lengths};

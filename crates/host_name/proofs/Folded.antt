@@ -33,14 +33,14 @@ fold_step b n s i below within room =
 
 -- what a caller learns whose array was empty: the folded name, cut, stands in front of it
 module _ {out : List ℕ} {n : ℕ} (s : List ℕ)
-    (wrote : (n ≡ length (take 254 s)) × (out ≡ put (replicate 254 0) 0 (take 254 (folded_name s)))) where
+    (answer : n ≡ length (take 254 s)) (bytes : out ≡ put (replicate 254 0) 0 (take 254 (folded_name s))) where
   pub front : take n out ≡ take 254 (folded_name s)
   unfolding put
   front =
-      ap₂ take (wrote.0 ∙ sym (taken-length 254 s)) wrote.1
+      ap₂ take (answer ∙ sym (taken-length 254 s)) bytes
       ∙ take-append_seam (take 254 (folded_name s)) (drop (0 + length (take 254 (folded_name s))) (replicate 254 0))
 
   pub room : length out ≡ 254
   room =
       let short : length (take 254 (folded_name s)) ≤ 254 = omega (arith, length-take 254 (folded_name s)) in
-      ap length wrote.1 ∙ put-length (replicate 254 0) 0 (take 254 (folded_name s)) (omega (arith, short))
+      ap length bytes ∙ put-length (replicate 254 0) 0 (take 254 (folded_name s)) (omega (arith, short))

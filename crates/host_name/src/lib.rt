@@ -1,5 +1,6 @@
 // Host names: a name is a label, or a label, a dot and a name.
 #![tactic(auto)]
+
 pub mod folding;
 
 ghost use Rattle.std.specs.Prelude.{◌≡◌, true, ◌+◌, ◌≤◌, ◌<◌, length, get_or, drop};

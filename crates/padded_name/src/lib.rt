@@ -2,6 +2,7 @@
 // neighbour say whether the name is well-formed: that goes by vectors, over a fixed number of bytes. Longer names go from dot to
 // dot.
 #![tactic(auto)]
+
 ghost use Rattle.std.specs.Prelude.{◌≡◌, ◌&&◌, ◌+◌, ◌-◌, ◌<◌, length, get_or};
 ghost use Rattle.octets.specs.Octets.{part, all_zero};
 ghost use Rattle.octets.specs.Search.{every};

@@ -1,13 +1,11 @@
 -- One field at a place of the bytes: where it ends, and what it holds.
-use mathlib.Core.Path.{◌≡◌, refl, sym, ap, subst, ◌∙◌}
+use mathlib.Core.Path.{◌≡◌, refl, sym, ap, ◌∙◌}
 use mathlib.Core.Logic.{⊎_elim}
 use mathlib.Core.Bool.{false, cond, ◌&&◌}
 use mathlib.Core.List.{List, [], ◌∷◌}
 use Prim.Native.Nat.{ℕ, ◌+◌, ◌-◌, ◌≤◌, ◌<◌}
 use native.Mathlib.Nat.{add-zero}
 use native.Mathlib.Omega.{arith}
-use types.Run.{OneOf}
-use denote.Enum.Declared.{tag_of}
 use lib.Dec.{leb, ltb, eqb}
 use lib.ListN.{length, get_or, take, drop, length-drop, drop_of_length-le}
 use lib.Seq.{length-take-le, drop-drop, get_or-drop}
@@ -19,7 +17,6 @@ use Rattle.octets.proofs.Options.{clash}
 use Rattle.recorded_call.specs.RecordedCall.{Front, taken, cut_off, bad, and_then, field, answers_field, tagged}
 use Rattle.recorded_call.specs.FieldEnds.{field_end, behind, stopped_by}
 use Rattle.recorded_call.specs.declared.reader.Taken.{Taken}
-use Rattle.recorded_call.specs.contracts.field.Field.{the_type}
 use Rattle.recorded_call.specs.declared.field.Field.{Field}
 use Rattle.recorded_call.specs.declared.field.Field.TheVariants as end
 
@@ -149,13 +146,10 @@ answers-cut-short at s h =
     (λ x. cut_short 3 2 2 at s x)
     (λ x. let k : bad ≡ cut_off = simp x at h in clash (cc))
 
-no-halt : {P : Type 0} → OneOf (1 ∷ 2 ∷ []) 0 → P
-no-halt h = ⊎_elim (λ x. clash x) (λ x. absurd (omega (arith, x))) h
-
--- what the code answers behind a field: where it did not end, which the number of its case says, and where it did
-pub stops : (x f : Field) (next : ℕ → Taken) {r : Taken} → r ≡ stopped_by f → OneOf (1 ∷ 2 ∷ []) (tag_of the_type f) → f ≡ x
+-- what the code answers behind a field: where it did not end, and where it did
+pub stops : (x f : Field) (next : ℕ → Taken) {r : Taken} → r ≡ stopped_by f → ((e : ℕ) → f ≡ end.Ends e → ⊥) → f ≡ x
     → r ≡ behind x next
-stops x (end.Ends e) next h halts same = no-halt halts
+stops x (end.Ends e) next h halts same = absurd (halts e refl)
 stops x end.CutOff next h halts same = h ∙ ap (λ (f : Field). behind f next) same
 stops x end.Bad next h halts same = h ∙ ap (λ (f : Field). behind f next) same
 
@@ -164,13 +158,13 @@ goes x f next h is same = h ∙ ap (λ (f : Field). behind f next) (sym is ∙ s
 
 -- the answers: a field of two bytes, the first of them below 8
 module _ (s : List ℕ) (at : ℕ) where
-  pub answers-stopped : (f : Field) → f ≡ field_end at (field 3 2 2 (drop at s)) → OneOf (1 ∷ 2 ∷ []) (tag_of the_type f)
+  pub answers-stopped : (f : Field) → f ≡ field_end at (field 3 2 2 (drop at s)) → ((e : ℕ) → f ≡ end.Ends e → ⊥)
       → f ≡ field_end at (answers_field (drop at s))
   answers-stopped f e h = go (field 3 2 2 (drop at s)) e
     where
       go : (x : Front (List ℕ)) → f ≡ field_end at x
           → f ≡ field_end at (and_then x (λ answers rest. cond (ltb (get_or answers 0 0) 8) (taken answers rest) bad))
-      go (taken v rest) e = no-halt (subst (λ (g : Field). OneOf (1 ∷ 2 ∷ []) (tag_of the_type g)) e h)
+      go (taken v rest) e = absurd (h (at + 3 + length v) e)
       go cut_off e = e
       go bad e = e
 

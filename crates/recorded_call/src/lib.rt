@@ -1,4 +1,5 @@
 // Recorded calls: one read from the front of a night's bytes.
 #![tactic(auto)]
+
 mod field;
 pub mod reader;

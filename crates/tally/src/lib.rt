@@ -1,5 +1,6 @@
 // The running tally of a night: how often each number was answered.
 #![tactic(auto)]
+
 ghost use Rattle.std.specs.Prelude.{◌≡◌, [], get_or};
 ghost use Rattle.tally.specs.Tally.{raised, counted, tallied};
 

@@ -2,8 +2,6 @@
 use mathlib.Core.Path.{sym, ap, ◌∙◌}
 use native.Mathlib.Omega.{arith}
 use lib.ListN.{length}
-use borrow.Author.Rules.{rules}
-use borrow.Author.Tests.{not-true, not-false}
 use Rattle.tack_extension.specs.Extension.{parts, good, bytes_of}
 use Rattle.tack_extension.specs.declared.answers.Writing.TheVariants.{Written}
 use Rattle.tack_extension.proofs.Writing.{bad-part, no-space, written}
@@ -14,7 +12,8 @@ pub returns-then-not-good_parts : goal.returns-then-not-good_parts
 returns-then-not-good_parts c =
     let a = c.args in
     let p = parts a.tack.now a.breaks.now a.activation in
-    bad-part (good p) (bytes_of p) a.out.now (sym c.good_parts.ensures ∙ c.if-not-good_parts.true)
+    let w = bad-part (good p) (bytes_of p) a.out.now (sym c.good_parts.ensures ∙ c.if-not-good_parts.true) in
+    record { answer = w.0; written = w.1 }
 
 pub overflow_add-t-2 : goal.overflow_add-t-2
 overflow_add-t-2 c =
@@ -25,8 +24,9 @@ pub returns-then-out-t : goal.returns-then-out-t
 returns-then-out-t c =
     let a = c.args in
     let p = parts a.tack.now a.breaks.now a.activation in
-    no-space (good p) (bytes_of p) a.out.now (sym c.good_parts.ensures ∙ c.if-not-good_parts.false)
-    (omega (arith, bytes-length p))
+    let w = no-space (good p) (bytes_of p) a.out.now (sym c.good_parts.ensures ∙ c.if-not-good_parts.false)
+    (omega (arith, bytes-length p)) in
+    record { answer = w.0; written = w.1 }
 
 pub put_extension-requires : goal.put_extension-requires
 put_extension-requires c =

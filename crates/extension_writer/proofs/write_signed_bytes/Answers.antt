@@ -4,7 +4,6 @@ use mathlib.Core.List.{[], ◌∷◌}
 use native.Mathlib.Omega.{arith}
 use lib.ListN.{length, take}
 use lib.Dec.{eqb}
-use borrow.Author.Rules.{rules}
 use borrow.Author.Tests.{eq-eqb, ne_eqb}
 use Rattle.tack_extension.specs.Tack.{signed_bytes}
 use Rattle.tack_extension.specs.declared.answers.Writing.TheVariants.{Written}
@@ -12,28 +11,18 @@ use Rattle.tack_extension.proofs.Writing.{start, step, bad-part, no-space, writt
 use Rattle.extension_writer.proofs.ExtensionBytes.{signed-length}
 use Rattle.extension_writer.proofs.write_signed_bytes.Goals as goal
 
--- TODO need slice-aggregate-put-part
--- slice-aggregate-put-part : tie.Need-slice-aggregate-put-part
--- slice-aggregate-put-part c = search rules
-
--- TODO need slice-bounds-put-part-start
--- part-put-part-start : tie.Need-slice-bounds-put-part-start
--- part-put-part-start c = search rules
-
--- TODO need slice-bounds-put-part-end
--- part-put-part-end : tie.Need-slice-bounds-put-part-end
--- part-put-part-end c = search rules
-
 pub returns-then-tack-ne166 : goal.returns-then-tack-ne166
 returns-then-tack-ne166 c =
     let a = c.args in
-    bad-part (eqb (length a.tack.now) 166) (signed_bytes a.tack.now) a.out.now (ne_eqb _ _ c.if-tack-ne166.true)
+    let w = bad-part (eqb (length a.tack.now) 166) (signed_bytes a.tack.now) a.out.now (ne_eqb _ _ c.if-tack-ne166.true) in
+    record { answer = w.0; written = w.1 }
 
 pub returns-then-out-lt110 : goal.returns-then-out-lt110
 returns-then-out-lt110 c =
     let a = c.args in
-    no-space (eqb (length a.tack.now) 166) (signed_bytes a.tack.now) a.out.now (eq-eqb _ _ c.if-tack-ne166.false)
-    (omega (arith, signed-length a.tack.now c.if-tack-ne166.false))
+    let w = no-space (eqb (length a.tack.now) 166) (signed_bytes a.tack.now) a.out.now (eq-eqb _ _ c.if-tack-ne166.false)
+    (omega (arith, signed-length a.tack.now c.if-tack-ne166.false)) in
+    record { answer = w.0; written = w.1 }
 
 pub returns : goal.returns
 unfolding signed_bytes

@@ -1,9 +1,7 @@
-use mathlib.Core.Path.{◌≡◌, refl, ap}
-use Prim.Native.Nat.{◌+◌, ◌-◌, ◌≤◌}
+use mathlib.Core.Path.{refl, ap}
 use native.Mathlib.Omega.{arith}
-use lib.ListN.{length, drop}
+use lib.ListN.{length}
 use borrow.Author.Rules.{rules}
-use Rattle.host_name.specs.Scan.{to_dot}
 use Rattle.host_name.proofs.Steps.{to_dot-dot, to_dot-next, to_dot-end}
 use Rattle.host_name.proofs.label_end.Goals as goal
 

@@ -1,11 +1,8 @@
 -- The first dot stands where the bytes before it end.
-use mathlib.Core.Path.{◌≡◌, refl, ap}
+use mathlib.Core.Path.{◌≡◌}
 use Prim.Native.Nat.{◌+◌, ◌-◌, ◌≤◌}
-use native.Mathlib.Omega.{arith}
 use lib.ListN.{length, drop}
-use borrow.Author.Rules.{rules}
 use Rattle.host_name.specs.Scan.{to_dot}
-use Rattle.host_name.proofs.Steps.{to_dot-dot, to_dot-next, to_dot-end}
 use Rattle.host_name.proofs.label_end.Given as goal
 
 abbrev pub invariant-loop-i : goal.invariant-loop-i

@@ -1,5 +1,4 @@
 -- The tests are those of the definition.
-use borrow.Author.Rules.{rules}
 use Rattle.host_name.proofs.name_byte.Goals as goal
 
 pub returns : goal.returns

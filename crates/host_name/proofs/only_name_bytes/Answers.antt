@@ -1,10 +1,6 @@
-use mathlib.Core.Path.{◌≡◌, refl, sym, ◌∙◌}
-use mathlib.Core.Bool.{◌&&◌}
-use Prim.Native.Nat.{◌-◌, ◌≤◌}
+use mathlib.Core.Path.{refl, sym, ◌∙◌}
 use native.Mathlib.Omega.{arith}
-use lib.ListN.{length, drop}
 use borrow.Author.Rules.{rules}
-use Rattle.octets.specs.Octets.{all}
 use Rattle.host_name.specs.Scan.{name_byte}
 use Rattle.host_name.proofs.Steps.{all-next, all_end}
 use Rattle.host_name.proofs.only_name_bytes.Goals as goal

@@ -1,13 +1,10 @@
 -- The bytes read so far and those that remain make up the answer.
-use mathlib.Core.Path.{◌≡◌, refl, sym, ◌∙◌}
+use mathlib.Core.Path.{◌≡◌}
 use mathlib.Core.Bool.{◌&&◌}
 use Prim.Native.Nat.{◌-◌, ◌≤◌}
-use native.Mathlib.Omega.{arith}
 use lib.ListN.{length, drop}
-use borrow.Author.Rules.{rules}
 use Rattle.octets.specs.Octets.{all}
 use Rattle.host_name.specs.Scan.{name_byte}
-use Rattle.host_name.proofs.Steps.{all-next, all_end}
 use Rattle.host_name.proofs.only_name_bytes.Given as goal
 
 abbrev pub invariant-loop-i : goal.invariant-loop-i

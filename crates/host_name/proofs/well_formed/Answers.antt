@@ -3,8 +3,7 @@ use mathlib.Core.Path.{refl, sym, ◌∙◌}
 use mathlib.Core.Bool.{and-false}
 use native.Mathlib.Omega.{arith}
 use lib.ListN.{length, replicate}
-use borrow.Author.Rules.{rules}
-use borrow.Author.Tests.{le-leb, lt-leb, not-true, not-false}
+use borrow.Author.Tests.{le-leb, lt-leb}
 use Rattle.host_name.specs.Name.{well_formed}
 use Rattle.host_name.proofs.Bytes.{bytes-refused}
 use Rattle.host_name.proofs.Moved.{moved-bytes, moved-rest}

@@ -1,13 +1,9 @@
-use mathlib.Core.Path.{◌≡◌, sym, ap, ap₂, ◌∙◌}
+use mathlib.Core.Path.{sym, ap, ap₂, ◌∙◌}
 use mathlib.Core.Bool.{◌&&◌}
-use Prim.Native.Nat.{◌+◌, ◌-◌, ◌≤◌}
 use native.Mathlib.Nat.{le_antisymm}
 use native.Mathlib.Omega.{arith}
-use lib.ListN.{get_or}
-use borrow.Author.Rules.{rules}
 use Rattle.octets.specs.Search.{every}
 use Rattle.octets.proofs.Search.{every-none, every_more}
-use Rattle.padded_name.specs.Neighbours.{neighbours}
 use Rattle.padded_name.proofs.all_neighbours.Goals as goal
 
 pub loop-i-init : goal.loop-i-init

@@ -1,13 +1,8 @@
 -- The loop's invariant: the answer for the first i bytes.
-use mathlib.Core.Path.{◌≡◌, sym, ap, ap₂, ◌∙◌}
-use mathlib.Core.Bool.{◌&&◌}
+use mathlib.Core.Path.{◌≡◌}
 use Prim.Native.Nat.{◌+◌, ◌-◌, ◌≤◌}
-use native.Mathlib.Nat.{le_antisymm}
-use native.Mathlib.Omega.{arith}
 use lib.ListN.{get_or}
-use borrow.Author.Rules.{rules}
 use Rattle.octets.specs.Search.{every}
-use Rattle.octets.proofs.Search.{every-none, every_more}
 use Rattle.padded_name.specs.Neighbours.{neighbours}
 use Rattle.padded_name.proofs.all_neighbours.Given as goal
 

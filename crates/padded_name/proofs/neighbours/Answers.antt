@@ -1,5 +1,4 @@
 -- The tests are those of the definition.
-use borrow.Author.Rules.{rules}
 use Rattle.padded_name.specs.Neighbours.{neighbours}
 use Rattle.padded_name.proofs.neighbours.Goals as goal
 

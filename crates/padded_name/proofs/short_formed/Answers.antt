@@ -2,8 +2,6 @@
 use mathlib.Core.Path.{sym, ◌∙◌}
 use mathlib.Core.Bool.{false≢true}
 use native.Mathlib.Omega.{arith}
-use borrow.Author.Tests.{not-true, not-false}
-use borrow.Author.Rules.{rules}
 use Rattle.octets.proofs.Tests.{is_false}
 use Rattle.padded_name.proofs.PaddedNames.{first_fits, last_fits, behind-fits, neighbours-fit, zeros-left}
 use Rattle.padded_name.proofs.short_formed.Goals as goal

@@ -1,8 +1,6 @@
 -- By the name's length.
 use mathlib.Core.Path.{sym, ap, ◌∙◌}
 use native.Mathlib.Omega.{arith}
-use borrow.Author.Tests.{not-true, not-false}
-use borrow.Author.Rules.{rules}
 use Rattle.octets.proofs.Parts.{part-lent}
 use Rattle.host_name.specs.Name.{well_formed}
 use Rattle.padded_name.proofs.PaddedNames.{none-formed}

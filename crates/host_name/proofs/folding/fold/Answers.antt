@@ -1,26 +1,23 @@
 use mathlib.Core.Path.{◌≡◌, sym, ap, ◌∙◌}
-use mathlib.Core.Logic.{◌⊎◌, inl, inr}
-use mathlib.Core.List.{List}
-use Prim.Native.Nat.{ℕ, ◌-◌, ◌≤◌, ◌<◌}
 use native.Mathlib.Omega.{arith}
 use lib.ListN.{length, take, length-take}
 use lib.Seq.{take_all}
-use borrow.Author.Rules.{rules}
 use Rattle.octets.specs.Octets.{put}
 use Rattle.octets.proofs.Parts.{put-none}
 use Rattle.host_name.specs.Folding.{folded_name}
 use Rattle.host_name.proofs.Folded.{taken-length, fold_step}
 use Rattle.host_name.proofs.folding.fold.Goals as goal
-
--- the shorter of the two lengths, as the branch leaves it
-at_most : {T E : Type 0} (n : ℕ) (s : List ℕ) → ((T × (n ≡ 254)) ⊎ (E × (n ≡ length s))) → (T → 254 < length s) → (E → length s ≤ 254)
-    → n ≡ length (take 254 s)
-at_most n s (inl came) long short = omega (arith, came.1, long came.0, length-take 254 s)
-at_most n s (inr came) long short = omega (arith, came.1, short came.0, length-take 254 s)
+use Rattle.host_name.proofs.folding.fold.Goals.{then-n-gt254, else-n-gt254}
 
 pub loop-i-init : goal.loop-i-init
 loop-i-init c =
-    (at_most c.if-n-gt254.n c.args.name.now c.if-n-gt254.branch (λ h. h.taken) (λ h. h.left), omega arith, c.requires, sym (put-none _ 0))
+    let n : c.if-n-gt254.n ≡ length (take 254 c.args.name.now) =
+    elim c.if-n-gt254.branch [
+      | then-n-gt254 w ↦ omega (arith, length-take 254 c.args.name.now)
+      | else-n-gt254 w ↦ omega (arith, length-take 254 c.args.name.now)
+    ]
+    in
+    (n, omega arith, c.requires, sym (put-none _ 0))
 
 pub bounds-name-i : goal.bounds-name-i
 bounds-name-i c = omega (arith, length-take 254 c.args.name.now)

@@ -1,16 +1,9 @@
 -- The loop's invariant: the first i bytes of the folded name are put in.
-use mathlib.Core.Path.{◌≡◌, sym, ap, ◌∙◌}
-use mathlib.Core.Logic.{◌⊎◌, inl, inr}
-use mathlib.Core.List.{List}
-use Prim.Native.Nat.{ℕ, ◌-◌, ◌≤◌, ◌<◌}
-use native.Mathlib.Omega.{arith}
-use lib.ListN.{length, take, length-take}
-use lib.Seq.{take_all}
-use borrow.Author.Rules.{rules}
+use mathlib.Core.Path.{◌≡◌}
+use Prim.Native.Nat.{◌-◌, ◌≤◌}
+use lib.ListN.{length, take}
 use Rattle.octets.specs.Octets.{put}
-use Rattle.octets.proofs.Parts.{put-none}
 use Rattle.host_name.specs.Folding.{folded_name}
-use Rattle.host_name.proofs.Folded.{taken-length, fold_step}
 use Rattle.host_name.proofs.folding.fold.Given as goal
 
 abbrev pub invariant-loop-i : goal.invariant-loop-i

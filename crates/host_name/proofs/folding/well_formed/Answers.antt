@@ -3,7 +3,6 @@ use mathlib.Core.Path.{sym, ap, ◌∙◌}
 use native.Mathlib.Omega.{arith}
 use lib.ListN.{length-take}
 use lib.Seq.{length-take-le}
-use borrow.Author.Rules.{rules}
 use Rattle.host_name.specs.Name.{well_formed}
 use Rattle.host_name.specs.Folding.{folded_name}
 use Rattle.host_name.proofs.Folded.{front, room}
@@ -11,15 +10,14 @@ use Rattle.host_name.proofs.Cut.{cut-formed}
 use Rattle.host_name.proofs.folding.well_formed.Goals as goal
 
 pub slice_bounds-folded-end : goal.slice_bounds-folded-end
-slice_bounds-folded-end c = sym (room c.args.name.now c.fold-n.ensures)
+slice_bounds-folded-end c = sym (room c.args.name.now c.fold-n.ensures.length c.fold-n.ensures.bytes)
 
 pub slice_bounds-well_formed-end : goal.slice_bounds-well_formed-end
 slice_bounds-well_formed-end c =
     let s = c.args.name.now in
-    let wrote = c.fold-n.ensures in
-    sym (length-take-le _ _ (omega (arith, room s wrote, wrote.0, length-take 254 s)))
+    sym (length-take-le _ _ (omega (arith, room s c.fold-n.ensures.length c.fold-n.ensures.bytes, c.fold-n.ensures.length, length-take 254 s)))
 
 pub returns : goal.returns
 returns c =
     let s = c.args.name.now in
-    c.well_formed-2.ensures ∙ ap well_formed (front s c.fold-n.ensures) ∙ cut-formed (folded_name s)
+    c.well_formed-2.ensures ∙ ap well_formed (front s c.fold-n.ensures.length c.fold-n.ensures.bytes) ∙ cut-formed (folded_name s)

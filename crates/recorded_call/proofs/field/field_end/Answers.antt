@@ -3,7 +3,6 @@ use mathlib.Core.Path.{refl, sym, ap}
 use native.Mathlib.Omega.{arith}
 use Rattle.recorded_call.specs.FieldEnds.{field_end}
 use Rattle.recorded_call.proofs.Fields.{at-short, other_tag, too_short, too_long, lacking, complete}
-use borrow.Author.Rules.{rules}
 use Rattle.recorded_call.proofs.field.field_end.Goals as goal
 
 pub returns-then-s-at-lt3 : goal.returns-then-s-at-lt3

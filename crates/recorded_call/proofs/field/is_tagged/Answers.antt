@@ -1,6 +1,5 @@
 -- The tag at a place, if there is a byte.
 use Rattle.recorded_call.proofs.Fields.{tag-none, tag-some}
-use borrow.Author.Rules.{rules}
 use Rattle.recorded_call.proofs.field.is_tagged.Goals as goal
 
 pub returns-then-s-at : goal.returns-then-s-at

@@ -2,7 +2,6 @@
 use mathlib.Core.Path.{◌≡◌, sym}
 use Prim.Native.Nat.{◌+◌, ◌*◌, ◌-◌}
 use native.Mathlib.Omega.{arith}
-use borrow.Author.Rules.{rules}
 use Rattle.octets.specs.Octets.{part}
 use Rattle.tack_extension.proofs.BreakSignatures.{break-at}
 use Rattle.tack_extension.proofs.fields.break_signature.Goals as goal

@@ -1,6 +1,5 @@
 -- The first 64 bytes of the tack are its public key.
 use mathlib.Core.Path.{refl}
-use borrow.Author.Rules.{rules}
 use Rattle.octets.specs.Octets.{part}
 use Rattle.tack_extension.specs.Tack.{public_key}
 use Rattle.tack_extension.proofs.fields.public_key.Goals as goal

@@ -1,6 +1,5 @@
 -- The 32 bytes from 70 of the tack are its target hash.
 use mathlib.Core.Path.{refl}
-use borrow.Author.Rules.{rules}
 use Rattle.octets.specs.Octets.{part}
 use Rattle.tack_extension.specs.Tack.{target_hash}
 use Rattle.tack_extension.proofs.fields.target_hash.Goals as goal

@@ -1,7 +1,6 @@
 -- The activation is read where its byte is the last and at most 1, by the tests of the code.
 use lib.Dec.{leb}
 use lib.ListN.{get_or}
-use borrow.Author.Rules.{rules}
 use borrow.Author.Tests.{le-leb, lt-leb}
 use Rattle.tack_extension.specs.Extension.{activation_step}
 use Rattle.tack_extension.proofs.Places.{last_none, last-refused, last-read}

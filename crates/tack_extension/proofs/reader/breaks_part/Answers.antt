@@ -1,37 +1,16 @@
 -- The break signatures lie where the layout says.
-use mathlib.Core.Path.{sym, ap, ◌∙◌}
+use mathlib.Core.Path.{sym, ap}
 use native.Mathlib.Omega.{arith}
-use borrow.Author.Rules.{rules}
 use Rattle.tack_extension.specs.Extension.{parse, breaks_part, breaks_of}
-use Rattle.tack_extension.proofs.Places.{layout-refused, Laid, laid}
-use Rattle.tack_extension.proofs.reader.breaks_part.Reads as own
-use Rattle.tack_extension.proofs.reader.breaks_part.Lts as walk
-use Rattle.tack_extension.proofs.reader.read_layout.Reads as layout
+use Rattle.tack_extension.proofs.Places.{layout-refused, laid}
 use Rattle.tack_extension.proofs.reader.breaks_part.Goals as goal
-
--- what the layout says
-places : (c : walk.After-known-told (layout.Asked, layout.Learnt) own.Pre own.Post) → Laid c.before.before.before.before.before.args.s.now c.before.tack.given.0.0 c.before.tack.given.0.1.0
-places c = laid _ _ _ _ (sym c.before.before.before.read-layout.ensures ∙ c.before.tack.given.1)
-
--- TODO need slice-bounds-result-start
--- part-result-start : tie.Need-slice-bounds-result-start
--- part-result-start c = let w = places c in omega arith
-
--- TODO need slice-bounds-result-end
--- part-result-end : tie.Need-slice-bounds-result-end
--- part-result-end c = let w = places c in omega arith
 
 pub returns-in_default : goal.returns-in_default
 unfolding breaks_part
-returns-in_default c =
-    let s = c.args.s.now in
-    sym (ap breaks_of (layout-refused (parse s) (sym c.read_layout.ensures ∙ c.enum_told-1.given.1)))
+returns-in_default c = sym (ap breaks_of (layout-refused (parse c.args.s.now) (sym c.in_default.ensures)))
 
-pub overflow_add-result : goal.overflow_add-result
-overflow_add-result c = let w = places c in omega arith
-
-pub slice_bounds-result-count : goal.slice_bounds-result-count
-slice_bounds-result-count c = let w = places c in omega arith
+pub slice_bounds-result-end-2 : goal.slice_bounds-result-end-2
+slice_bounds-result-end-2 c = let w = laid c.args.s.now _ _ _ (sym c.in-Ends.ensures) in omega arith
 
 pub returns : goal.returns
-returns c = (places c).breaks
+returns c = (laid c.args.s.now _ _ _ (sym c.in-Ends.ensures)).breaks

@@ -1,8 +1,6 @@
 -- The flags are read where their byte is the last and is allowed behind tacks of that length.
 use mathlib.Core.Path.{sym, ◌∙◌}
 use native.Mathlib.Omega.{arith}
-use borrow.Author.Rules.{rules}
-use borrow.Author.Tests.{not-true, not-false}
 use Rattle.tack_extension.proofs.Places.{last_none, last-refused, last-read}
 use Rattle.tack_extension_two.specs.ExtensionTwo.{flags_allowed, flags_step}
 use Rattle.tack_extension_two.proofs.reader.flags_at.Goals as goal

@@ -1,29 +1,20 @@
 -- The layout of what parses: each answer by the steps before it.
-use mathlib.Core.Path.{sym, ◌∙◌}
+use mathlib.Core.Path.{sym}
 use native.Mathlib.Omega.{arith}
-use borrow.Author.Rules.{rules}
 use Rattle.tack_extension_two.proofs.PlacesTwo.{tacks-ended, layout-no-tacks, layout-no-flags, layout-ends}
 use Rattle.tack_extension_two.proofs.reader.read_layout.Goals as goal
 
 pub returns-in_default : goal.returns-in_default
-returns-in_default c = layout-no-tacks c.args.s.now (sym c.tacks_end.ensures ∙ c.enum_told-1.given.1)
+returns-in_default c = layout-no-tacks c.args.s.now (sym c.in_default.ensures)
 
 pub overflow_sub-tacks : goal.overflow_sub-tacks
-overflow_sub-tacks c =
-    let w = tacks-ended c.args.s.now _ (sym c.tacks_end.ensures ∙ c.tacks-1.given.1) in
-    omega (arith, w.size)
+overflow_sub-tacks c = let w = tacks-ended c.args.s.now _ (sym c.in-At.ensures) in omega (arith, w.size)
 
 pub flags_at-requires : goal.flags_at-requires
-flags_at-requires c = (tacks-ended c.args.s.now _ (sym c.tacks_end.ensures ∙ c.tacks-1.given.1)).within
+flags_at-requires c = (tacks-ended c.args.s.now _ (sym c.in-At.ensures)).within
 
 pub returns-in_default-flags_at : goal.returns-in_default-flags_at
-returns-in_default-flags_at c =
-    layout-no-flags c.args.s.now c.tacks-1.given.0.0
-    (sym c.tacks_end.ensures ∙ c.tacks-1.given.1)
-    (sym c.flags_at.ensures ∙ c.enum_told-in_default-flags_at-1.given.1)
+returns-in_default-flags_at c = layout-no-flags c.args.s.now _ (sym c.in-At.ensures) (sym c.in_default-flags_at.ensures)
 
 pub returns : goal.returns
-returns c =
-    layout-ends c.args.s.now c.tacks-1.given.0.0
-    (sym c.tacks_end.ensures ∙ c.tacks-1.given.1)
-    c.flags-1.given.0.0 (sym c.flags_at.ensures ∙ c.flags-1.given.1)
+returns c = layout-ends c.args.s.now _ (sym c.in-At.ensures) _ (sym c.in-Is.ensures)

@@ -2,8 +2,6 @@
 use mathlib.Core.Path.{sym, ap, ◌∙◌}
 use native.Mathlib.Omega.{arith}
 use lib.ListN.{drop, length-drop}
-use borrow.Author.Rules.{rules}
-use borrow.Author.Tests.{not-true, not-false}
 use Rattle.tack_extension.specs.Places.{end_of}
 use Rattle.tack_extension.proofs.Places.{end_refused, end_short, end_read}
 use Rattle.tack_extension_two.specs.ExtensionTwo.{tacks_length, tacks_step}

@@ -2,8 +2,6 @@
 use mathlib.Core.Path.{sym, ap, ◌∙◌}
 use native.Mathlib.Omega.{arith}
 use lib.ListN.{length}
-use borrow.Author.Rules.{rules}
-use borrow.Author.Tests.{not-true, not-false}
 use Rattle.tack_extension.specs.declared.answers.Writing.TheVariants.{Written}
 use Rattle.tack_extension.proofs.Writing.{bad-part, no-space, written}
 use Rattle.tack_extension_two.specs.ExtensionTwo.{parts_in, good_two, bytes_of_two}
@@ -16,25 +14,28 @@ returns-then-not-tacks_length c =
     let a = c.args in
     let t = a.tacks.now in
     let p = parts_in t a.flags in
-    bad-part (good_two p) (bytes_of_two p) a.out.now
-    (bad-tacks t a.flags (sym c.tacks_length.ensures ∙ c.if-not-tacks_length.true))
+    let w = bad-part (good_two p) (bytes_of_two p) a.out.now
+    (bad-tacks t a.flags (sym c.tacks_length.ensures ∙ c.if-not-tacks_length.true)) in
+    record { answer = w.0; written = w.1 }
 
 pub returns-then-not-flags_allowed : goal.returns-then-not-flags_allowed
 returns-then-not-flags_allowed c =
     let a = c.args in
     let t = a.tacks.now in
     let p = parts_in t a.flags in
-    bad-part (good_two p) (bytes_of_two p) a.out.now
-    (bad-flags t a.flags (sym c.flags_allowed.ensures ∙ c.if-not-flags_allowed.true))
+    let w = bad-part (good_two p) (bytes_of_two p) a.out.now
+    (bad-flags t a.flags (sym c.flags_allowed.ensures ∙ c.if-not-flags_allowed.true)) in
+    record { answer = w.0; written = w.1 }
 
 pub returns-then-out-n : goal.returns-then-out-n
 returns-then-out-n c =
     let a = c.args in
     let t = a.tacks.now in
     let p = parts_in t a.flags in
-    no-space (good_two p) (bytes_of_two p) a.out.now
+    let w = no-space (good_two p) (bytes_of_two p) a.out.now
     (in-good t a.flags (sym c.tacks_length.ensures ∙ c.if-not-tacks_length.false) (sym c.flags_allowed.ensures ∙ c.if-not-flags_allowed.false))
-    (omega (arith, bytes-length-two t a.flags))
+    (omega (arith, bytes-length-two t a.flags)) in
+    record { answer = w.0; written = w.1 }
 
 pub put_extension-requires : goal.put_extension-requires
 put_extension-requires c =
