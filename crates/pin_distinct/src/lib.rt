@@ -1,5 +1,6 @@
 // That no key, pin or name stands too often in the table: those rules of pin_model's Sound.antt.
 #![tactic(auto)]
+
 pub mod distinct;
 mod key_repeats;
 mod marks;

@@ -1,21 +1,17 @@
-use mathlib.Core.Path.{◌≡◌, sym, ap, ◌∙◌}
-use mathlib.Core.Bool.{false, not}
+use mathlib.Core.Path.{sym, ap, ◌∙◌}
+use mathlib.Core.Bool.{not}
 use mathlib.Core.List.{List}
-use Prim.Native.Nat.{ℕ, ◌-◌, ◌≤◌, ◌<◌}
+use Prim.Native.Nat.{ℕ}
 use native.Mathlib.Omega.{arith}
-use borrow.Author.Count.{below_more, below_none}
-use borrow.Author.Rules.{rules}
+use borrow.Author.Count.{below_more}
 use Rattle.pin_model.specs.Layout.{is_used, key_in}
-use Rattle.pin_model.specs.Sound.{key_twice, keys_distinct}
+use Rattle.pin_model.specs.Sound.{keys_distinct}
 use Rattle.pin_distinct.specs.Hashes.{key_mark}
 use Rattle.octets.proofs.Search.{every_true, every-false}
 use Rattle.pin_table.proofs.Rules.{no}
-use Rattle.pin_distinct.proofs.Seen.{none_seen, passed_over, passed-marked}
-use Rattle.pin_distinct.proofs.Doubles.{KeysSeen, key-free, key-unseen}
+use Rattle.pin_distinct.proofs.Seen.{passed_over, passed-marked}
+use Rattle.pin_distinct.proofs.Doubles.{key-free, key-unseen}
 use Rattle.pin_distinct.proofs.distinct.keys_distinct.Goals as goal
-
-pub loop-n-init : goal.loop-n-init
-loop-n-init c = (omega arith, none_seen _ _, below_none _)
 
 pub loop-n-preserved-then-not-is_used : goal.loop-n-preserved-then-not-is_used
 loop-n-preserved-then-not-is_used c =

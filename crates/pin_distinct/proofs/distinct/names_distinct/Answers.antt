@@ -1,6 +1,5 @@
 -- In its two parts; the second is asked for in edition two alone.
 use mathlib.Core.Path.{sym, ◌∙◌}
-use borrow.Author.Rules.{rules}
 use Rattle.pin_table.proofs.Rules.{no, yes}
 use Rattle.pin_distinct.proofs.Doubles.{pin-double, once-distinct, parts-distinct}
 use Rattle.pin_distinct.proofs.distinct.names_distinct.Goals as goal

@@ -1,7 +1,7 @@
 use mathlib.Core.Path.{sym, ap, ◌∙◌}
 use mathlib.Core.Bool.{not}
 use mathlib.Core.List.{List}
-use Prim.Native.Nat.{ℕ, ◌-◌, ◌≤◌}
+use Prim.Native.Nat.{ℕ}
 use native.Mathlib.Omega.{arith}
 use borrow.Author.Rules.{rules}
 use Rattle.pin_model.specs.Layout.{is_used, name_in}
@@ -11,11 +11,8 @@ use Rattle.pin_table.proofs.Rules.{no, yes}
 use Rattle.pin_distinct.specs.Hashes.{name_mark}
 use Rattle.pin_distinct.specs.Pins.{no_name_thrice}
 use Rattle.pin_distinct.proofs.Hashing.{used-formed}
-use Rattle.pin_distinct.proofs.Doubles.{FewSeen, few-none, few-free, few-first, few-second, few-more}
+use Rattle.pin_distinct.proofs.Doubles.{few-free, few-first, few-second, few-more}
 use Rattle.pin_distinct.proofs.distinct.no_name_thrice.Goals as goal
-
-pub loop-n-init : goal.loop-n-init
-loop-n-init c = (omega arith, few-none _)
 
 pub loop-n-preserved-then-not-is_used : goal.loop-n-preserved-then-not-is_used
 loop-n-preserved-then-not-is_used c = (omega arith, few-free _ c.loop-n.invariant.1 (ap is_used (sym c.name_slot-s.ensures.0) ∙ no c.is_used.ensures c.if-not-is_used.true))

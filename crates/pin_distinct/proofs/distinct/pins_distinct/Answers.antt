@@ -1,22 +1,18 @@
-use mathlib.Core.Path.{◌≡◌, sym, ap, ap₂, ◌∙◌}
-use mathlib.Core.Bool.{false, not}
-use Prim.Native.Nat.{ℕ, ◌-◌, ◌≤◌, ◌<◌}
+use mathlib.Core.Path.{sym, ap, ap₂, ◌∙◌}
+use mathlib.Core.Bool.{not}
 use native.Mathlib.Omega.{arith}
-use borrow.Author.Count.{below_more, below_none}
+use borrow.Author.Count.{below_more}
 use borrow.Author.Rules.{rules}
-use Rattle.pin_model.specs.Layout.{of_two, is_used}
+use Rattle.pin_model.specs.Layout.{is_used}
 use Rattle.pin_model.specs.Sound.{name_formed}
 use Rattle.octets.proofs.Search.{every_true, every-false}
 use Rattle.pin_table.proofs.Rules.{no, yes}
 use Rattle.pin_distinct.specs.Hashes.{pin_mark}
-use Rattle.pin_distinct.specs.Pins.{pin_again, pins_distinct}
+use Rattle.pin_distinct.specs.Pins.{pins_distinct}
 use Rattle.pin_distinct.proofs.Hashing.{used-formed}
-use Rattle.pin_distinct.proofs.Seen.{none_seen, passed_over, passed-marked}
-use Rattle.pin_distinct.proofs.Doubles.{PinsSeen, pin-free, pin-unseen}
+use Rattle.pin_distinct.proofs.Seen.{passed_over, passed-marked}
+use Rattle.pin_distinct.proofs.Doubles.{pin-free, pin-unseen}
 use Rattle.pin_distinct.proofs.distinct.pins_distinct.Goals as goal
-
-pub loop-n-init : goal.loop-n-init
-loop-n-init c = (omega arith, none_seen _ _, below_none _)
 
 pub loop-n-preserved-then-not-is_used : goal.loop-n-preserved-then-not-is_used
 loop-n-preserved-then-not-is_used c =

@@ -1,24 +1,13 @@
-use mathlib.Core.Path.{◌≡◌, sym}
-use mathlib.Core.Bool.{false}
-use Prim.Native.Nat.{ℕ, ◌-◌, ◌≤◌, ◌<◌}
+use mathlib.Core.Path.{sym}
 use native.Mathlib.Omega.{arith}
-use borrow.Author.Rules.{rules}
-use borrow.Author.Count.{below_more, below_none}
-use Rattle.pin_model.specs.Layout.{key_slot}
 use Rattle.pin_model.specs.Sound.{same_key, key_twice}
 use Rattle.octets.proofs.Search.{some-true, some-false}
 use Rattle.pin_distinct.proofs.SlotPairs.{said}
 use Rattle.pin_distinct.proofs.key_repeats.key_twice.Goals as goal
 
-pub loop-j-init : goal.loop-j-init
-loop-j-init c = (omega arith, below_none _)
-
 pub returns-then-same_key : goal.returns-then-same_key
 unfolding key_twice
 returns-then-same_key c = sym (some-true _ _ _ c.loop-j-test.true (said same_key c.key_slot-s.ensures.0 c.key_slot-r.ensures.0 c.same_key.ensures c.if-same_key.true))
-
-pub loop-j-preserved : goal.loop-j-preserved
-loop-j-preserved c = (omega arith, below_more _ _ c.loop-j.invariant.1 (said same_key c.key_slot-s.ensures.0 c.key_slot-r.ensures.0 c.same_key.ensures c.if-same_key.false))
 
 pub returns : goal.returns
 unfolding key_twice

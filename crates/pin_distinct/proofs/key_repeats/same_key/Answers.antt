@@ -1,6 +1,5 @@
 -- Rule by rule, and the keys byte by byte.
 use mathlib.Core.Path.{sym, ap, ◌∙◌}
-use borrow.Author.Rules.{rules}
 use Rattle.octets.specs.Octets.{same}
 use Rattle.pin_model.specs.Layout.{key_in}
 use Rattle.pin_model.specs.Sound.{same_key}

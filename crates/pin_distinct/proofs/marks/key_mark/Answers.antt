@@ -1,6 +1,5 @@
 -- The first word and the last, as the definition goes.
 use mathlib.Core.Path.{ap, ap₂, ◌∙◌}
-use borrow.Author.Rules.{rules}
 use Rattle.pin_distinct.specs.Hashes.{with_word, mark_of, key_mark}
 use Rattle.pin_distinct.proofs.marks.key_mark.Goals as goal
 

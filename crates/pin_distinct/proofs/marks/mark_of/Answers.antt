@@ -2,7 +2,6 @@
 use mathlib.Core.Path.{refl}
 use native.Mathlib.Nat.{mod-lt}
 use native.Mathlib.Omega.{arith}
-use borrow.Author.Rules.{rules}
 use Rattle.pin_distinct.specs.Hashes.{mark_of}
 use Rattle.pin_distinct.proofs.marks.mark_of.Goals as goal
 

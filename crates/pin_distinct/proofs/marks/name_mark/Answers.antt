@@ -1,8 +1,5 @@
-use mathlib.Core.Path.{◌≡◌, ◌∙◌}
-use Prim.Native.Nat.{◌+◌, ◌-◌, ◌/◌, ◌%◌, ◌≤◌}
+use mathlib.Core.Path.{◌∙◌}
 use native.Mathlib.Omega.{arith}
-use borrow.Author.Rules.{rules}
-use Rattle.pin_distinct.specs.Hashes.{words_hash}
 use Rattle.pin_distinct.proofs.Hashing.{hash-none, hash-more, mark-end}
 use Rattle.pin_distinct.proofs.marks.name_mark.Goals as goal
 

@@ -1,10 +1,7 @@
 -- The loop's invariant: the words before `at` are in the hash.
-use mathlib.Core.Path.{◌≡◌, ◌∙◌}
+use mathlib.Core.Path.{◌≡◌}
 use Prim.Native.Nat.{◌+◌, ◌-◌, ◌/◌, ◌%◌, ◌≤◌}
-use native.Mathlib.Omega.{arith}
-use borrow.Author.Rules.{rules}
 use Rattle.pin_distinct.specs.Hashes.{words_hash}
-use Rattle.pin_distinct.proofs.Hashing.{hash-none, hash-more, mark-end}
 use Rattle.pin_distinct.proofs.marks.name_mark.Given as goal
 
 abbrev pub invariant-loop-at : goal.invariant-loop-at

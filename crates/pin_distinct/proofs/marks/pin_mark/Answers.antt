@@ -1,8 +1,6 @@
 -- By the edition, as the definition goes.
 use native.Mathlib.Nat.{mod-lt}
 use native.Mathlib.Omega.{arith}
-use borrow.Author.Rules.{rules}
-use borrow.Author.Tests.{not-true, not-false}
 use Rattle.pin_distinct.proofs.Hashing.{by_name, by-pin}
 use Rattle.pin_distinct.proofs.marks.pin_mark.Goals as goal
 

@@ -1,6 +1,5 @@
 -- By the edition, as the definition goes.
 use mathlib.Core.Path.{sym, ◌∙◌}
-use borrow.Author.Rules.{rules}
 use Rattle.pin_distinct.specs.Pins.{pin_again}
 use Rattle.pin_distinct.proofs.repeats.pin_again.Goals as goal
 

@@ -1,14 +1,9 @@
 -- The loop's invariant: none of the first m slots has the name and the key.
-use mathlib.Core.Path.{◌≡◌, sym}
+use mathlib.Core.Path.{◌≡◌}
 use mathlib.Core.Bool.{false}
 use Prim.Native.Nat.{ℕ, ◌-◌, ◌≤◌, ◌<◌}
-use native.Mathlib.Omega.{arith}
-use borrow.Author.Rules.{rules}
-use borrow.Author.Count.{below_more, below_none}
 use Rattle.pin_model.specs.Layout.{name_slot}
-use Rattle.pin_model.specs.Sound.{same_pin, pin_twice}
-use Rattle.octets.proofs.Search.{some-true, some-false}
-use Rattle.pin_distinct.proofs.SlotPairs.{said}
+use Rattle.pin_model.specs.Sound.{same_pin}
 use Rattle.pin_distinct.proofs.repeats.pin_twice.Given as goal
 
 abbrev pub invariant-loop-m : goal.invariant-loop-m

@@ -2,7 +2,6 @@
 use mathlib.Core.Path.{sym, ◌∙◌}
 use Prim.Native.Nat.{◌<◌}
 use native.Mathlib.Omega.{arith}
-use borrow.Author.Rules.{rules}
 use Rattle.pin_model.specs.Layout.{name_length}
 use Rattle.pin_model.specs.Sound.{same_name}
 use Rattle.pin_table.proofs.Rules.{no, yes}

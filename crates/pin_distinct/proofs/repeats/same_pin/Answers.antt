@@ -1,7 +1,6 @@
 -- Rule by rule.
 use mathlib.Core.Path.{sym, ◌∙◌}
 use mathlib.Core.Bool.{and-false, and-true}
-use borrow.Author.Rules.{rules}
 use borrow.Author.Tests.{eq-eqb, ne_eqb}
 use Rattle.pin_model.specs.Sound.{same_pin}
 use Rattle.pin_distinct.proofs.repeats.same_pin.Goals as goal

@@ -1,6 +1,5 @@
 -- As the definitions go.
 use mathlib.Core.Path.{refl}
-use borrow.Author.Rules.{rules}
 use Rattle.pin_distinct.specs.SeenMarks.{is_seen, with_seen}
 use Rattle.pin_distinct.proofs.seen_marks.add.Goals as goal
 

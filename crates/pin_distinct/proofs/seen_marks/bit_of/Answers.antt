@@ -4,7 +4,6 @@ use Prim.Native.Nat.{◌%◌, ◌^◌}
 use native.Mathlib.Nat.{one-mul}
 use native.Mathlib.Omega.{arith}
 use lib.Pow.{shl_exact}
-use borrow.Author.Rules.{rules}
 use Rattle.pin_distinct.specs.SeenMarks.{bit_of}
 use Rattle.pin_distinct.proofs.seen_marks.bit_of.Goals as goal
 

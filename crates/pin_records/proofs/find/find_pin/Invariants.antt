@@ -1,16 +1,12 @@
 -- The loop's invariant: none of the first n slots holds the pin.
 use mathlib.Core.Option.{none}
 use mathlib.Core.Bool.{false}
-use mathlib.Core.Path.{◌≡◌, sym, ◌∙◌}
+use mathlib.Core.Path.{◌≡◌}
 use Prim.Native.Nat.{ℕ, ◌-◌, ◌≤◌, ◌<◌}
-use native.Mathlib.Omega.{arith}
 use lib.ListN.{get_or}
-use borrow.Author.Rules.{rules}
-use borrow.Author.Count.{below_more, below_none}
 use Rattle.pin_model.specs.Table.{pin_is}
 use Rattle.pin_model.specs.Layout.{decode}
 use Rattle.pin_model.specs.Fits.{holds}
-use Rattle.pin_records.proofs.Found.{name-at, name-nowhere}
 use Rattle.pin_records.proofs.find.find_pin.Given as goal
 
 abbrev pub invariant-loop-n : goal.invariant-loop-n

@@ -1,15 +1,11 @@
 -- The loop's invariant: none of the first k slots is free.
 use mathlib.Core.Option.{none}
 use mathlib.Core.Bool.{false}
-use mathlib.Core.Path.{◌≡◌, sym, ◌∙◌}
+use mathlib.Core.Path.{◌≡◌}
 use Prim.Native.Nat.{ℕ, ◌-◌, ◌≤◌, ◌<◌}
-use native.Mathlib.Omega.{arith}
 use lib.ListN.{get_or}
-use borrow.Author.Rules.{rules}
-use borrow.Author.Count.{below_more, below_none}
 use Rattle.pin_model.specs.Layout.{decode}
 use Rattle.pin_records.specs.Find.{is_free}
-use Rattle.pin_records.proofs.Found.{key-at, key-nowhere}
 use Rattle.pin_records.proofs.find.free_key.Given as goal
 
 abbrev pub invariant-loop-k : goal.invariant-loop-k

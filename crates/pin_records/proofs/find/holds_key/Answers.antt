@@ -1,6 +1,5 @@
 -- By the slot's bytes: whether it is used, then its key.
 use mathlib.Core.Path.{sym, ◌∙◌}
-use borrow.Author.Rules.{rules}
 use Rattle.pin_table.proofs.Rules.{no, yes}
 use Rattle.pin_records.proofs.SlotBytes.{key-read, read-unused, read-key}
 use Rattle.pin_records.proofs.find.holds_key.Goals as goal

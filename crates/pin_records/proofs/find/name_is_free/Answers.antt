@@ -1,7 +1,6 @@
 -- By the slot's first byte.
 use mathlib.Core.Path.{ap, ◌∙◌}
 use mathlib.Core.Bool.{not}
-use borrow.Author.Rules.{rules}
 use Rattle.pin_records.proofs.SlotBytes.{name-read, read-free}
 use Rattle.pin_records.proofs.find.name_is_free.Goals as goal
 

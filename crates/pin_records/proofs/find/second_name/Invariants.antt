@@ -1,16 +1,12 @@
 -- The loop's invariant: none of the slots from behind the first up to n holds the name.
-use mathlib.Core.Path.{◌≡◌, sym, ◌∙◌}
+use mathlib.Core.Path.{◌≡◌}
 use mathlib.Core.Bool.{false}
 use mathlib.Core.Option.{none}
 use Prim.Native.Nat.{ℕ, ◌-◌, ◌≤◌, ◌<◌}
-use native.Mathlib.Omega.{arith}
 use lib.ListN.{get_or}
-use borrow.Author.Rules.{rules}
-use borrow.Author.Count.{below_more}
 use Rattle.pin_model.specs.Table.{name_is}
 use Rattle.pin_model.specs.Layout.{decode}
 use Rattle.pin_model.specs.Fits.{holds}
-use Rattle.pin_records.proofs.SecondSlots.{no-first, first_below, second-found, second-missing}
 use Rattle.pin_records.proofs.find.second_name.Given as goal
 
 abbrev pub invariant-loop-n : goal.invariant-loop-n

@@ -1,5 +1,4 @@
 -- By the slot's fields: whether there is an end, then the end.
-use borrow.Author.Rules.{rules}
 use Rattle.pin_records.proofs.HeldSlots.{held-absent, held-end}
 use Rattle.pin_records.proofs.read.end.Goals as goal
 

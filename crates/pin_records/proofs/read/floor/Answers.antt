@@ -1,5 +1,4 @@
 -- By the slot's second byte.
-use borrow.Author.Rules.{rules}
 use Rattle.pin_records.proofs.HeldSlots.{held-floor}
 use Rattle.pin_records.proofs.read.floor.Goals as goal
 

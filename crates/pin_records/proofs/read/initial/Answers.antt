@@ -1,6 +1,5 @@
 -- By the slot's field.
 use mathlib.Core.Path.{◌∙◌}
-use borrow.Author.Rules.{rules}
 use Rattle.pin_records.proofs.HeldSlots.{held-initial}
 use Rattle.pin_records.proofs.read.initial.Goals as goal
 

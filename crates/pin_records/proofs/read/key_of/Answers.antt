@@ -1,7 +1,6 @@
 -- By the slot's key number.
 use mathlib.Core.Path.{◌∙◌}
 use native.Mathlib.Omega.{arith}
-use borrow.Author.Rules.{rules}
 use Rattle.pin_records.proofs.HeldSlots.{held_number, held_below}
 use Rattle.pin_records.proofs.read.key_of.Goals as goal
 

@@ -1,6 +1,5 @@
 -- By the key slot that the name's points to.
 use mathlib.Core.Path.{◌∙◌}
-use borrow.Author.Rules.{rules}
 use Rattle.pin_records.proofs.PinnedKeys.{pinned-by-slot}
 use Rattle.pin_records.proofs.read.pinned_to.Goals as goal
 

@@ -1,6 +1,5 @@
 -- By the slot's key number, since no key stands in two slots.
 use mathlib.Core.Path.{◌∙◌}
-use borrow.Author.Rules.{rules}
 use Rattle.pin_records.proofs.HeldSlots.{held-refers}
 use Rattle.pin_records.proofs.read.refers_to.Goals as goal
 

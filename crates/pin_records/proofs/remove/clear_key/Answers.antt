@@ -1,5 +1,4 @@
 -- The zeros are the bytes of a free slot.
-use borrow.Author.Rules.{rules}
 use Rattle.pin_records.proofs.Cleared.{key-cleared}
 use Rattle.pin_records.proofs.remove.clear_key.Goals as goal
 

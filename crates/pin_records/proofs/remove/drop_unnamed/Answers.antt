@@ -1,21 +1,8 @@
-use mathlib.Core.Path.{◌≡◌, sym, ◌∙◌}
-use mathlib.Core.Bool.{false}
-use mathlib.Core.Option.{none}
-use Prim.Native.Nat.{ℕ, ◌-◌, ◌≤◌, ◌<◌}
+use mathlib.Core.Path.{sym, ◌∙◌}
 use native.Mathlib.Omega.{arith}
-use lib.ListN.{get_or}
-use borrow.Author.Rules.{rules}
-use borrow.Author.Count.{below_more, below_none}
-use Rattle.pin_model.specs.Table.{pinned_to}
-use Rattle.pin_model.specs.Layout.{decode, key_at}
-use Rattle.pin_model.specs.Fits.{holds}
-use Rattle.pin_records.specs.Holds.{Holds}
 use Rattle.pin_records.proofs.HeldSlots.{holds-stored}
-use Rattle.pin_records.proofs.Cleared.{stage, stage-free, stage-named, stage-unnamed, stage-cleared, stage-end}
+use Rattle.pin_records.proofs.Cleared.{stage-free, stage-named, stage-unnamed, stage-cleared, stage-end}
 use Rattle.pin_records.proofs.remove.drop_unnamed.Goals as goal
-
-pub keys-init : goal.keys-init
-keys-init c = (omega arith, c.requires)
 
 pub key_is_free-requires : goal.key_is_free-requires
 key_is_free-requires c = (holds-stored c.keys.invariant.1, c.keys-test.true)
@@ -23,17 +10,11 @@ key_is_free-requires c = (holds-stored c.keys.invariant.1, c.keys-test.true)
 pub keys-preserved-then-key_is_free : goal.keys-preserved-then-key_is_free
 keys-preserved-then-key_is_free c = (omega arith, stage-free _ _ c.keys.invariant.1 (sym c.key_is_free.ensures ∙ c.if-key_is_free.true))
 
-pub names-init : goal.names-init
-names-init c = (omega arith, below_none _)
-
 pub refers_to-requires : goal.refers_to-requires
 refers_to-requires c = (holds-stored c.keys.invariant.1, c.names-test.true, c.keys-test.true, sym c.key_is_free.ensures ∙ c.if-key_is_free.false)
 
 pub keys-preserved-then-refers_to : goal.keys-preserved-then-refers_to
 keys-preserved-then-refers_to c = (omega arith, stage-named _ _ c.keys.invariant.1 _ (sym c.refers_to.ensures ∙ c.if-refers_to.true))
-
-pub names-preserved : goal.names-preserved
-names-preserved c = (omega arith, below_more _ _ c.names.invariant.1 (sym c.refers_to.ensures ∙ c.if-refers_to.false))
 
 pub clear_key-requires : goal.clear_key-requires
 clear_key-requires c = (
@@ -49,9 +30,6 @@ keys-preserved c = (
   stage-cleared _ _ c.keys.invariant.1 (sym c.key_is_free.ensures ∙ c.if-key_is_free.false)
       (λ j l. c.names.invariant.1 j (omega arith)) c.clear_key.ensures,
 )
-
-pub shape_of-area : goal.shape_of-area
-shape_of-area c = c.keys.invariant.1.long ∙ sym c.requires.long
 
 pub returns : goal.returns
 returns c = stage-end _ _ c.keys.invariant.1 c.requires.fits.key_slots c.keys-test.false

@@ -1,18 +1,14 @@
 -- The outer loop's invariant: the keys below `next` that no name is left on are gone. The inner one's: none of the first n names is pinned to the key.
-use mathlib.Core.Path.{◌≡◌, sym, ◌∙◌}
+use mathlib.Core.Path.{◌≡◌}
 use mathlib.Core.Bool.{false}
 use mathlib.Core.Option.{none}
 use Prim.Native.Nat.{ℕ, ◌-◌, ◌≤◌, ◌<◌}
-use native.Mathlib.Omega.{arith}
 use lib.ListN.{get_or}
-use borrow.Author.Rules.{rules}
-use borrow.Author.Count.{below_more, below_none}
 use Rattle.pin_model.specs.Table.{pinned_to}
 use Rattle.pin_model.specs.Layout.{decode, key_at}
 use Rattle.pin_model.specs.Fits.{holds}
 use Rattle.pin_records.specs.Holds.{Holds}
-use Rattle.pin_records.proofs.HeldSlots.{holds-stored}
-use Rattle.pin_records.proofs.Cleared.{stage, stage-free, stage-named, stage-unnamed, stage-cleared, stage-end}
+use Rattle.pin_records.proofs.Cleared.{stage}
 use Rattle.pin_records.proofs.remove.drop_unnamed.Given as goal
 
 abbrev pub invariant-names : goal.invariant-names

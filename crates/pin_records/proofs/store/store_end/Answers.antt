@@ -1,7 +1,6 @@
 -- The end's four bytes and the mark before them are the slot of the record with that end.
 use mathlib.Core.Path.{ap, ◌∙◌}
 use native.Mathlib.Omega.{arith}
-use borrow.Author.Rules.{rules}
 use Rattle.octets.specs.Octets.{put, big_endian}
 use Rattle.pin_records.proofs.Stores.{end-stored}
 use Rattle.pin_records.proofs.store.store_end.Goals as goal

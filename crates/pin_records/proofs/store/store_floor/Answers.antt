@@ -1,5 +1,4 @@
 -- The floor's byte of the slot is set.
-use borrow.Author.Rules.{rules}
 use Rattle.pin_records.proofs.Stores.{floor-stored}
 use Rattle.pin_records.proofs.store.store_floor.Goals as goal
 

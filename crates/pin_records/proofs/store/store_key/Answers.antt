@@ -3,7 +3,6 @@ use mathlib.Core.Path.{refl}
 use mathlib.Core.List.{[], ◌∷◌}
 use native.Mathlib.Omega.{arith}
 use lib.ListN.{replicate}
-use borrow.Author.Rules.{rules}
 use Rattle.octets.proofs.Runs.{first, step}
 use Rattle.pin_records.proofs.Stores.{key-stored}
 use Rattle.pin_records.proofs.store.store_key.Goals as goal

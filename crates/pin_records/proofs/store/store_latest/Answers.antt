@@ -1,7 +1,6 @@
 -- The four bytes of latest are put in.
 use mathlib.Core.Path.{ap, ◌∙◌}
 use native.Mathlib.Omega.{arith}
-use borrow.Author.Rules.{rules}
 use Rattle.octets.specs.Octets.{put, big_endian}
 use Rattle.pin_records.proofs.Stores.{latest-stored}
 use Rattle.pin_records.proofs.store.store_latest.Goals as goal

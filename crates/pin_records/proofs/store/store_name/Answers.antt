@@ -4,7 +4,6 @@ use mathlib.Core.List.{[], ◌∷◌}
 use Prim.Native.Nat.{◌-◌, ◌%◌}
 use native.Mathlib.Omega.{arith}
 use lib.ListN.{length, replicate, length-replicate}
-use borrow.Author.Rules.{rules}
 use Rattle.octets.specs.Octets.{put, big_endian}
 use Rattle.octets.proofs.Numbers.{big_endian-length}
 use Rattle.octets.proofs.Runs.{first, step}

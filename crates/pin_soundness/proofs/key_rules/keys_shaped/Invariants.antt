@@ -1,14 +1,9 @@
 -- The loop's invariant: the first k slots are shaped.
-use mathlib.Core.Path.{◌≡◌, sym, ap, ◌∙◌}
+use mathlib.Core.Path.{◌≡◌}
 use mathlib.Core.Bool.{true}
 use Prim.Native.Nat.{ℕ, ◌-◌, ◌≤◌, ◌<◌}
-use native.Mathlib.Omega.{arith}
-use borrow.Author.Rules.{rules}
-use borrow.Author.Count.{below_more, below_none}
 use Rattle.pin_model.specs.Layout.{key_slot}
-use Rattle.pin_model.specs.Sound.{key_shaped, keys_shaped}
-use Rattle.octets.proofs.Search.{every_true, every-false}
-use Rattle.pin_table.proofs.Rules.{no, yes}
+use Rattle.pin_model.specs.Sound.{key_shaped}
 use Rattle.pin_soundness.proofs.key_rules.keys_shaped.Given as goal
 
 abbrev pub invariant-loop-k : goal.invariant-loop-k

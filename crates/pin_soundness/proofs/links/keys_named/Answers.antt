@@ -1,9 +1,6 @@
-use mathlib.Core.Path.{◌≡◌, sym, ap, ◌∙◌}
-use mathlib.Core.Bool.{true}
-use Prim.Native.Nat.{ℕ, ◌-◌, ◌≤◌, ◌<◌}
+use mathlib.Core.Path.{sym, ap, ◌∙◌}
 use native.Mathlib.Omega.{arith}
-use borrow.Author.Rules.{rules}
-use borrow.Author.Count.{below_more, below_none}
+use borrow.Author.Count.{below_more}
 use borrow.Author.Tests.{eq-eqb, ne_eqb}
 use Rattle.pin_model.specs.Layout.{is_used}
 use Rattle.pin_model.specs.Sound.{key_named, keys_named}
@@ -11,15 +8,9 @@ use Rattle.octets.proofs.Search.{every_true, every-false}
 use Rattle.pin_table.proofs.Rules.{no, yes}
 use Rattle.pin_soundness.proofs.links.keys_named.Goals as goal
 
-pub loop-n-init : goal.loop-n-init
-loop-n-init c = (omega arith, below_none _)
-
 pub loop-n-preserved-then-not-is_used : goal.loop-n-preserved-then-not-is_used
 unfolding key_named
 loop-n-preserved-then-not-is_used c = (omega arith, below_more _ _ c.loop-n.invariant.1 (rw (ap is_used (sym c.key_slot-s.ensures.0) ∙ no c.is_used.ensures c.if-not-is_used.true)))
-
-pub bounds-marked-k : goal.bounds-marked-k
-bounds-marked-k c = omega (arith, c.marked_keys-marked.ensures.size)
 
 pub returns-then-marked-k-ne1 : goal.returns-then-marked-k-ne1
 unfolding keys_named key_named

@@ -1,10 +1,6 @@
 use mathlib.Core.Path.{sym, ap, ◌∙◌}
-use Prim.Native.Nat.{◌-◌, ◌≤◌}
-use native.Mathlib.Nat.{le_antisymm}
 use native.Mathlib.Omega.{arith}
-use borrow.Author.Rules.{rules}
 use Rattle.pin_model.specs.Layout.{is_used, key_number}
-use Rattle.pin_soundness.specs.Marked.{KeysMarked}
 use Rattle.pin_table.proofs.Rules.{no, yes}
 use Rattle.pin_soundness.proofs.NamedKeys.{none-marked, marked-free, marked-used}
 use Rattle.pin_soundness.proofs.links.marked_keys.Goals as goal
@@ -17,6 +13,3 @@ loop-n-preserved-then-not-is_used c = (omega arith, marked-free _ _ _ c.loop-n.i
 
 pub loop-n-preserved : goal.loop-n-preserved
 loop-n-preserved c = (omega arith, marked-used _ _ _ c.loop-n.invariant.1 _ (c.key_number-k.ensures.0 ∙ ap key_number c.name_slot-s.ensures.0) (omega arith) (ap is_used (sym c.name_slot-s.ensures.0) ∙ yes c.is_used.ensures c.if-not-is_used.false))
-
-pub returns : goal.returns
-returns c = rw (← (le_antisymm c.loop-n.invariant.0 c.loop-n-test.false)) c.loop-n.invariant.1

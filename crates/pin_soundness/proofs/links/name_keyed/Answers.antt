@@ -1,6 +1,5 @@
 -- Rule by rule.
 use mathlib.Core.Path.{sym, ap, ◌∙◌}
-use borrow.Author.Rules.{rules}
 use borrow.Author.Tests.{le-ltb, lt-ltb}
 use Rattle.pin_model.specs.Layout.{is_used}
 use Rattle.pin_model.specs.Sound.{name_keyed}

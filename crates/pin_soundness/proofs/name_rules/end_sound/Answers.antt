@@ -1,6 +1,5 @@
 -- Rule by rule, by whether the end is present.
 use mathlib.Core.Path.{sym, ◌∙◌}
-use borrow.Author.Rules.{rules}
 use borrow.Author.Tests.{eq-eqb, ne_eqb}
 use Rattle.pin_model.specs.Sound.{end_sound}
 use Rattle.pin_table.proofs.Rules.{no, yes}

@@ -1,7 +1,6 @@
 -- The front of the padded name is the name, and what is behind it stands behind the name.
 use mathlib.Core.Path.{◌∙◌}
 use native.Mathlib.Omega.{arith}
-use borrow.Author.Rules.{rules}
 use Rattle.pin_soundness.proofs.Rules.{padded-formed}
 use Rattle.pin_soundness.proofs.name_rules.name_formed.Goals as goal
 

@@ -1,6 +1,5 @@
 -- Rule by rule.
 use mathlib.Core.Path.{sym, ◌∙◌}
-use borrow.Author.Rules.{rules}
 use Rattle.pin_model.specs.Sound.{name_right}
 use Rattle.pin_table.proofs.Rules.{no, yes}
 use Rattle.pin_soundness.proofs.name_rules.name_right.Goals as goal

@@ -1,6 +1,5 @@
 -- By whether the slot is used, as the definition goes.
 use mathlib.Core.Path.{sym, ap, ◌∙◌}
-use borrow.Author.Rules.{rules}
 use Rattle.octets.specs.Octets.{all_zero}
 use Rattle.pin_model.specs.Sound.{name_shaped}
 use Rattle.octets.proofs.Parts.{part-all}

@@ -1,14 +1,9 @@
 -- The loop's invariant: the first n slots are shaped.
-use mathlib.Core.Path.{◌≡◌, sym, ap₂, ◌∙◌}
+use mathlib.Core.Path.{◌≡◌}
 use mathlib.Core.Bool.{true}
 use Prim.Native.Nat.{ℕ, ◌-◌, ◌≤◌, ◌<◌}
-use native.Mathlib.Omega.{arith}
-use borrow.Author.Rules.{rules}
-use borrow.Author.Count.{below_more, below_none}
 use Rattle.pin_model.specs.Layout.{latest_in, name_slot}
-use Rattle.pin_model.specs.Sound.{name_shaped, names_shaped}
-use Rattle.octets.proofs.Search.{every_true, every-false}
-use Rattle.pin_table.proofs.Rules.{no, yes}
+use Rattle.pin_model.specs.Sound.{name_shaped}
 use Rattle.pin_soundness.proofs.name_rules.names_shaped.Given as goal
 
 abbrev pub invariant-loop-n : goal.invariant-loop-n

@@ -1,6 +1,5 @@
 -- An empty table is sound; any other by its rules.
 use mathlib.Core.Path.{sym}
-use borrow.Author.Rules.{rules}
 use borrow.Author.Tests.{ne_eqb}
 use Rattle.pin_model.specs.Sound.{sound}
 use Rattle.pin_soundness.proofs.Rules.{zeros-are-sound}

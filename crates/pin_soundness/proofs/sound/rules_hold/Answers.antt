@@ -1,6 +1,5 @@
 -- Rule by rule.
 use mathlib.Core.Path.{sym, ◌∙◌}
-use borrow.Author.Rules.{rules}
 use borrow.Author.Tests.{eq-eqb, ne_eqb, leb-true}
 use Rattle.pin_model.specs.Sound.{head_sound, sound}
 use Rattle.octets.proofs.Tests.{and_left}

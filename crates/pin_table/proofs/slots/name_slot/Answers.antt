@@ -1,18 +1,9 @@
 -- The slot is lent whole.
 use Prim.Native.Nat.{◌+◌, ◌*◌}
 use native.Mathlib.Omega.{arith}
-use borrow.Author.Rules.{rules}
 use Rattle.pin_model.specs.Layout.{name_slot}
 use Rattle.octets.proofs.Parts.{part-lent}
 use Rattle.pin_table.proofs.slots.name_slot.Goals as goal
-
--- TODO need slice-bounds-result-start
--- part-result-start : tie.Need-slice-bounds-result-start
--- part-result-start c = search rules
-
--- TODO need slice-bounds-result-end
--- part-result-end : tie.Need-slice-bounds-result-end
--- part-result-end c = search rules
 
 pub returns : goal.returns
 unfolding name_slot

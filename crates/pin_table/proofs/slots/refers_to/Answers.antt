@@ -1,6 +1,5 @@
 -- By the definition.
 use mathlib.Core.Path.{sym}
-use borrow.Author.Rules.{rules}
 use Rattle.pin_model.specs.Sound.{refers_to}
 use Rattle.pin_table.proofs.Rules.{no, yes}
 use Rattle.pin_table.proofs.slots.refers_to.Goals as goal

@@ -1,5 +1,4 @@
 -- The test is the definition's.
-use borrow.Author.Rules.{rules}
 use borrow.Author.Tests.{le-leb, lt-leb}
 use Rattle.pin_table.specs.Clocks.{clock_of}
 use Rattle.pin_table.proofs.minutes.Minutes.of_clock.Goals as goal
