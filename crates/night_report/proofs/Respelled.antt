@@ -21,3 +21,5 @@ same_lines earlier others [] [] before now = refl
 same_lines earlier others (c ∷ cs) (d ∷ ds) before (each r rs) =
     ap₂ ◌++◌ (ap₂ line (same_length before) ((one-run false earlier others before).1 (judge c) (judge d) r))
     (same_lines (judge c ∷ earlier) (judge d ∷ others) cs ds (each r before) rs)
+same_lines earlier others [] (d ∷ ds) before now = elim now [ ]
+same_lines earlier others (c ∷ cs) [] before now = elim now [ ]

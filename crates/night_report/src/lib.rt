@@ -1,3 +1,4 @@
 // The report on a night of recorded calls, as text.
 #![tactic(auto)]
+
 pub mod text;

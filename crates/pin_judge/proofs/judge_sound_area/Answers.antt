@@ -25,13 +25,13 @@ returns-then-is_two c =
     record { answer = refused.0; area = refused.1; sound = c.requires }
 
 pub slice_bounds-folded-end : goal.slice_bounds-folded-end
-slice_bounds-folded-end c = sym (room c.args.name.now (c.fold-n.ensures.length, c.fold-n.ensures.bytes))
+slice_bounds-folded-end c = sym (room c.args.name.now c.fold-n.ensures.length c.fold-n.ensures.bytes)
 
 pub slice_bounds-judge_folded-end : goal.slice_bounds-judge_folded-end
 slice_bounds-judge_folded-end c =
     let s = c.args.name.now in
     let wrote = c.fold-n.ensures in
-    sym (length-take-le _ _ (omega (arith, room s (wrote.length, wrote.bytes), wrote.length, length-take 254 s)))
+    sym (length-take-le _ _ (omega (arith, room s wrote.length wrote.bytes, wrote.length, length-take 254 s)))
 
 pub judge_folded-requires : goal.judge_folded-requires
 judge_folded-requires c = (c.requires, sym c.is_two.ensures ∙ c.if-is_two.false)
@@ -40,7 +40,7 @@ pub returns : goal.returns
 returns c =
     let a = c.args in
     let whole = connection a.clock a.name.now a.extension_came a.extension.now a.hash.now a.checks in
-    let its = front a.name.now (c.fold-n.ensures.length, c.fold-n.ensures.bytes) in
+    let its = front a.name.now c.fold-n.ensures.length c.fold-n.ensures.bytes in
     let same = judge-handed whole a.area.now in
     let w = c.judge_folded.ensures in
     let area = w.area ∙ ap (λ (name : List ℕ). area_after (judge (named name whole)) a.area.now) its ∙ same.1 in record { answer = w.answer ∙ ap (λ (name : List ℕ). answer (judge (named name whole)) a.area.now) its ∙ same.0; area = area; sound = ap sound area ∙ left-keeps _ _ c.requires }

@@ -37,13 +37,13 @@ returns-then-not-is_two c =
     record { answer = w.0; area = w.1 }
 
 pub slice_bounds-folded-end : goal.slice_bounds-folded-end
-slice_bounds-folded-end c = sym (room c.args.name.now (c.fold-n.ensures.length, c.fold-n.ensures.bytes))
+slice_bounds-folded-end c = sym (room c.args.name.now c.fold-n.ensures.length c.fold-n.ensures.bytes)
 
 pub slice_bounds-judge_folded-end : goal.slice_bounds-judge_folded-end
 slice_bounds-judge_folded-end c =
     let s = c.args.name.now in
     let wrote = c.fold-n.ensures in
-    sym (length-take-le _ _ (omega (arith, room s (wrote.length, wrote.bytes), wrote.length, length-take 254 s)))
+    sym (length-take-le _ _ (omega (arith, room s wrote.length wrote.bytes, wrote.length, length-take 254 s)))
 
 pub judge_folded-requires : goal.judge_folded-requires
 judge_folded-requires c =
@@ -53,7 +53,7 @@ pub returns : goal.returns
 returns c =
     let it = connection c.args.clock c.args.name.now c.args.extension_came c.args.extension.now
     c.args.hash.now c.args.checks in
-    let its = front c.args.name.now (c.fold-n.ensures.length, c.fold-n.ensures.bytes) in
+    let its = front c.args.name.now c.fold-n.ensures.length c.fold-n.ensures.bytes in
     let e = c.judge_folded.ensures in
     let w = uncut it c.args.area.now its e.answer e.area in
     record { answer = w.0; area = w.1 }

@@ -3,42 +3,25 @@ use native.Mathlib.Omega.{arith}
 use borrow.Author.Rules.{rules}
 use Rattle.night_report.proofs.Lines.{Short, short, line-written}
 use Rattle.night_report.proofs.text.put_line.Goals as goal
+use Rattle.night_report.proofs.text.put_line.Goals.{After-flag-full}
 
-fields : (c : tie.After-flag)
-    → Short c.before.before.before.args.index c.before.before.before.args.number c.before.alert-of.result c.flag.result
-fields c =
-    let o = c.before.before.before in
-    short o.args.index o.args.number o.args.no_room c.before.alert-of.ensures c.flag.ensures (omega arith) (omega arith)
-
--- TODO need slice-aggregate-put-field
--- slice-aggregate-put-field : tie.Need-slice-aggregate-put-field
--- slice-aggregate-put-field c = search rules
-
--- TODO need slice-aggregate-put-field-2
--- slice-aggregate-put-field-2 : tie.Need-slice-aggregate-put-field-2
--- slice-aggregate-put-field-2 c = search rules
-
--- TODO need slice-aggregate-put-field-3
--- slice-aggregate-put-field-3 : tie.Need-slice-aggregate-put-field-3
--- slice-aggregate-put-field-3 c = search rules
-
--- TODO need slice-aggregate-put-field-4
--- slice-aggregate-put-field-4 : tie.Need-slice-aggregate-put-field-4
--- slice-aggregate-put-field-4 c = search rules
+module _ (c : After-flag-full) where
+  fields : Short c.args.index c.args.number c.alert_of-alert.result c.flag-full.result
+  fields = short c.args.index c.args.number c.args.no_room c.alert_of-alert.ensures c.flag-full.ensures (omega arith) (omega arith)
 
 pub put_field-at_number-requires : goal.put_field-at_number-requires
-put_field-at_number-requires c = omega (arith, fields c)
+put_field-at_number-requires c = omega (arith, fields (goal.at.put_field-at_number-requires c).After-flag-full)
 
 pub put_field-at_alert-requires : goal.put_field-at_alert-requires
-put_field-at_alert-requires c = omega (arith, fields c)
+put_field-at_alert-requires c = omega (arith, fields (goal.at.put_field-at_alert-requires c).After-flag-full)
 
 pub put_field-at_full-requires : goal.put_field-at_full-requires
 put_field-at_full-requires c =
-    omega (arith, fields c)
+    omega (arith, fields (goal.at.put_field-at_full-requires c).After-flag-full)
 
 pub put_field-requires : goal.put_field-requires
 put_field-requires c =
-    omega (arith, fields c)
+    omega (arith, fields (goal.at.put_field-requires c).After-flag-full)
 
 pub returns : goal.returns
 returns c =

@@ -4,14 +4,6 @@ use borrow.Author.Rules.{rules}
 use Rattle.night_report.proofs.Lines.{field-u64, total-written}
 use Rattle.night_report.proofs.text.put_total.Goals as goal
 
--- TODO need slice-aggregate-put-part
--- slice-aggregate-put-part : tie.Need-slice-aggregate-put-part
--- slice-aggregate-put-part c = search rules
-
--- TODO need slice-aggregate-put-field
--- slice-aggregate-put-field : tie.Need-slice-aggregate-put-field
--- slice-aggregate-put-field c = search rules
-
 pub put_field-requires : goal.put_field-requires
 put_field-requires c =
     omega (arith, field-u64 c.args.n 10 (omega arith))
