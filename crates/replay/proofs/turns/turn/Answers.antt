@@ -7,14 +7,6 @@ use Rattle.replay.proofs.Steps.{reached-sound, call-more, cut-same, bad-same, sa
 use borrow.Author.Rules.{rules}
 use Rattle.replay.proofs.turns.turn.Goals as goal
 
--- TODO need slice-bounds-play-lending-start
--- part-play-lending-start : tie.Need-slice-bounds-play-lending-start
--- part-play-lending-start c = search rules
-
--- TODO need slice-bounds-play-lending-end
--- part-play-lending-end : tie.Need-slice-bounds-play-lending-end
--- part-play-lending-end c = search rules
-
 pub play_lending-played-requires : goal.play_lending-played-requires
 play_lending-played-requires c =
     (omega (arith, c.requires.0.room, c.requires.4), reached-sound c.requires.2)
@@ -24,7 +16,7 @@ overflow_add-from c =
     let l = c.play_lending-played.ensures in
     let w =
     line-places c.args.bytes.now c.args.p.from c.args.p.to c.args.p.at c.requires.0.start (omega (arith, c.requires.0.end, c.requires.3))
-    l.1.1.1.1.0 c.turn-1.given.1 in
+    l.within c.in-Line.is in
     record { fits = omega (arith, w.0, c.requires.0.end) }
 
 pub make_room-requires : goal.make_room-requires
@@ -32,7 +24,7 @@ make_room-requires c =
     let l = c.play_lending-played.ensures in
     let w =
     line-places c.args.bytes.now c.args.p.from c.args.p.to c.args.p.at c.requires.0.start (omega (arith, c.requires.0.end, c.requires.3))
-    l.1.1.1.1.0 c.turn-1.given.1 in
+    l.within c.in-Line.is in
     (w.0, c.requires.0.end, omega (arith, w.1, c.requires.0.room), omega (arith, c.requires.4))
 
 pub read_more-requires : goal.read_more-requires
@@ -40,7 +32,7 @@ read_more-requires c =
     let l = c.play_lending-played.ensures in
     let w =
     cut-places c.args.bytes.now c.args.p.from c.args.p.to c.args.p.at c.requires.0.start (omega (arith, c.requires.0.end, c.requires.3))
-    l.1.1.1.1.0 c.enum_told-1.given.1 in
+    l.within c.in-CutOff.is in
     (c.requires.0, w, c.requires.3, omega (arith, c.requires.4))
 
 pub returns-in-Line : goal.returns-in-Line
@@ -49,7 +41,7 @@ returns-in-Line c =
     let m = c.make_room.ensures in
     let w =
     call-more c.args.bytes.now c.args.p.from c.args.p.to c.args.p.index c.args.p.at c.args.area.now c.args.p.tally.counts c.requires.2
-    l.0 l.1.0 l.1.1.1.1.1 c.turn-1.given.1 in
+    l.turn l.area l.tally c.in-Line.is in
     (m.0, omega (arith, m.1), same-reached m.1 (ap (λ (t : Tally). t.counts) m.2) w)
 
 pub returns-in-CutOff : goal.returns-in-CutOff
@@ -58,7 +50,7 @@ returns-in-CutOff c =
     let m = c.read_more.ensures in
     let w =
     cut-same c.args.bytes.now c.args.p.from c.args.p.to c.args.p.index c.args.p.at c.args.area.now c.args.p.tally.counts c.requires.2
-    l.0 l.1.0 c.enum_told-1.given.1 in
+    l.turn l.area c.in-CutOff.is in
     (m.0, omega (arith, m.1), same-reached m.1 (ap (λ (t : Tally). t.counts) m.2) w)
 
 pub returns-in-Bad : goal.returns-in-Bad
@@ -67,5 +59,5 @@ returns-in-Bad c =
     let m = c.stopped.ensures in
     let w =
     bad-same c.args.bytes.now c.args.p.from c.args.p.to c.args.p.index c.args.p.at c.args.area.now c.args.p.tally.counts c.requires.2
-    l.0 l.1.0 l.1.1.1.1.1 c.enum_told-in-Bad-1.given.1 in
+    l.turn l.area l.tally c.in-Bad.is in
     (m.0, omega (arith, m.1), same-reached m.1 (ap (λ (t : Tally). t.counts) m.2) w)
