@@ -11,6 +11,7 @@ use pin_model::Checks;
 use tack_extension::answers::Writing;
 
 // Whether a clock and parts of these lengths can be recorded.
+#[tactic(auto, using(std::proofs::lemmas::Bool::Decides::nat_tests))]
 fn good_sizes(clock: u64, name: usize, extension_came: bool, extension: usize, hash: usize) -> bool
     ensures { result ≡ good_sizes clock name extension_came extension hash }
 {

@@ -7,17 +7,9 @@ use Rattle.octets.proofs.Parts.{put-none}
 use Rattle.host_name.specs.Folding.{folded_name}
 use Rattle.host_name.proofs.Folded.{taken-length, fold_step}
 use Rattle.host_name.proofs.folding.fold.Goals as goal
-use Rattle.host_name.proofs.folding.fold.Goals.{then-n-gt254, else-n-gt254}
 
 pub loop-i-init : goal.loop-i-init
-loop-i-init c =
-    let n : c.if-n-gt254.n ≡ length (take 254 c.args.name.now) =
-    elim c.if-n-gt254.branch [
-      | then-n-gt254 w ↦ omega (arith, length-take 254 c.args.name.now)
-      | else-n-gt254 w ↦ omega (arith, length-take 254 c.args.name.now)
-    ]
-    in
-    (n, omega arith, c.requires, sym (put-none _ 0))
+loop-i-init c = (grind (arith, length-take 254 c.args.name.now), omega arith, c.requires, sym (put-none _ 0))
 
 pub bounds-name-i : goal.bounds-name-i
 bounds-name-i c = omega (arith, length-take 254 c.args.name.now)
