@@ -14,7 +14,7 @@
 //! 'no room' and the table after a verdict of edition one without a tack, or with a disabled one and without the yes; and where
 //! that yes may change nothing, a call in ten is made again with the other choice.
 //!
-//! The proved program is `target/bin/replay`, unless `REPLAY_PROGRAM` names another. The comparison ends with status 1 at the
+//! The proved program is `crates/replay/out/replay`, unless `REPLAY_PROGRAM` names another. The comparison ends with status 1 at the
 //! first difference, or if a number, a spelling, an age of a pin, a kind of name field, of damage, of full table, of expired
 //! tack, of disabled tack, of night or of anything else that is counted in edition two never came. A call that hangs ends it with
 //! status 1 too, after two minutes.
