@@ -1,5 +1,6 @@
 // The writer: one call as it is recorded.
 #![tactic(auto)]
+
 ghost use Rattle.std.specs.Prelude.{◌≡◌, cond, ◌+◌, ◌≤◌, ◌<◌, length};
 ghost use Rattle.octets.specs.Octets.{put, big_endian};
 ghost use Rattle.tack_extension.specs.Answers.{writing, output};

@@ -1,6 +1,5 @@
 -- The field of an extension that came is three bytes longer than the extension.
 use native.Mathlib.Omega.{arith}
-use borrow.Author.Rules.{rules}
 use Rattle.recorded_call.proofs.Bytes.{field-length, came-bytes}
 use Rattle.call_writer.proofs.extension_size.Goals as goal
 

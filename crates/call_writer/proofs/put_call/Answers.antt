@@ -4,7 +4,6 @@ use mathlib.Core.List.{List, [], ◌∷◌}
 use Prim.Native.Nat.{ℕ, ◌+◌}
 use native.Mathlib.Omega.{arith}
 use lib.ListN.{length}
-use borrow.Author.Rules.{rules}
 use Rattle.octets.specs.Octets.{put, big_endian}
 use Rattle.octets.proofs.Numbers.{big_endian-length}
 use Rattle.tack_extension.proofs.Writing.{start, step}
@@ -14,16 +13,12 @@ use Rattle.recorded_call.proofs.Bytes.{field-length}
 use Rattle.call_writer.proofs.CallBytes.{joined}
 use Rattle.call_writer.proofs.put_call.Goals as goal
 
--- TODO need slice-aggregate-put-field-2
--- slice-aggregate-put-field-2 : tie.Need-slice-aggregate-put-field-2
--- slice-aggregate-put-field-2 c = search rules
-
 pub returns : goal.returns
 returns c =
     let a = c.args in
     let o = a.out.now in
     let e = a.extension.now in
-    let k = connection a.clock a.name.now a.extension-came e a.hash.now a.checks in
+    let k = connection a.clock a.name.now a.extension_came e a.hash.now a.checks in
     let v = c.answer_byte-answers.result ∷ a.checks.breaks_correct ∷ [] in
     let e₁ = c.put_clock-at_name.ensures in
     let e₂ = c.put_field-at_answers.ensures in
@@ -35,7 +30,7 @@ returns c =
     let w₂ = step (field_bytes 2 a.name.now) (field-length 2 a.name.now) w₁ (omega arith) e₂ in
     let w₃ = step (field_bytes 3 v) (field-length 3 v) w₂ (omega arith) e₃ in
     let w₄ = step (field_bytes 4 a.hash.now) (field-length 4 a.hash.now) w₃ (omega arith) e₄ in
-    let w₅ = step (extension_bytes a.extension-came e) refl w₄ (omega arith) e₅ in
+    let w₅ = step (extension_bytes a.extension_came e) refl w₄ (omega arith) e₅ in
     let w₆ = step (field_bytes 6 []) (field-length 6 []) w₅ (omega arith) e₆ in
     let same = joined k c.answer_byte-answers.result c.answer_byte-answers.ensures in
     (w₆.place ∙ ap (λ (l : List ℕ). length l) same, w₆.bytes ∙ ap (λ (l : List ℕ). put o 0 l) same)

@@ -3,16 +3,11 @@ use mathlib.Core.Path.{ap, ◌∙◌}
 use mathlib.Core.List.{List, [], ◌∷◌}
 use Prim.Native.Nat.{ℕ}
 use native.Mathlib.Omega.{arith}
-use borrow.Author.Rules.{rules}
 use Rattle.octets.specs.Octets.{put, big_endian}
 use Rattle.octets.proofs.Numbers.{big_endian-length}
 use Rattle.octets.proofs.Runs.{behind}
 use Rattle.call_writer.proofs.CallBytes.{clock-field}
 use Rattle.call_writer.proofs.put_clock.Goals as goal
-
--- TODO need slice-aggregate-put-part
--- slice-aggregate-put-part : tie.Need-slice-aggregate-put-part
--- slice-aggregate-put-part c = search rules
 
 pub returns : goal.returns
 returns c =

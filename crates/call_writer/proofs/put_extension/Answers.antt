@@ -4,7 +4,6 @@ use mathlib.Core.List.{List}
 use Prim.Native.Nat.{ℕ}
 use lib.ListN.{length}
 use native.Mathlib.Omega.{arith}
-use borrow.Author.Rules.{rules}
 use Rattle.octets.proofs.Parts.{put-none}
 use Rattle.recorded_call.proofs.Bytes.{field-length, came-bytes, absent-bytes}
 use Rattle.call_writer.proofs.put_extension.Goals as goal

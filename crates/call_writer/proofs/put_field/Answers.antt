@@ -3,7 +3,6 @@ use mathlib.Core.Path.{refl}
 use mathlib.Core.List.{[], ◌∷◌, ◌++◌}
 use native.Mathlib.Omega.{arith}
 use lib.ListN.{length}
-use borrow.Author.Rules.{rules}
 use Rattle.octets.specs.Octets.{big_endian}
 use Rattle.octets.proofs.Numbers.{big_endian-length}
 use Rattle.octets.proofs.Runs.{behind}

@@ -1,63 +1,73 @@
 -- The three answers, each with what it leaves in the output, by the tests before it.
 use mathlib.Core.Path.{◌≡◌, sym, ap, ◌∙◌}
-use mathlib.Core.Bool.{true}
+use mathlib.Core.Bool.{true, false}
 use native.Mathlib.Omega.{arith}
-use borrow.Author.Rules.{rules}
-use borrow.Author.Tests.{not-true, not-false}
+use lib.ListN.{length}
 use Rattle.tack_extension.specs.declared.answers.Writing.TheVariants.{Written}
 use Rattle.tack_extension.proofs.Writing.{bad-part, no-space, written}
 use Rattle.pin_model.specs.Connection.{Connection, connection}
-use Rattle.recorded_call.specs.RecordedCall.{call_bytes, recordable}
+use Rattle.recorded_call.specs.RecordedCall.{call_bytes, good_sizes, recordable}
 use Rattle.recorded_call.proofs.Bytes.{sizes}
 use Rattle.call_writer.proofs.CallBytes.{call_length}
-use Rattle.call_writer.proofs.extension_size.Reads as size
-use Rattle.call_writer.proofs.good_sizes.Reads as good
-use Rattle.call_writer.proofs.put_call.Reads as put
-use Rattle.call_writer.proofs.write_call.Reads as own
-use Rattle.call_writer.proofs.write_call.Lts as walk
 use Rattle.call_writer.proofs.write_call.Goals as goal
 
--- the connection that came, and that it can be recorded where the first test let it pass
-abbrev came : walk.Start (good.Asked, good.Learnt, size.Asked, size.Learnt, put.Asked, put.Learnt) own.Pre own.Post → Connection
-came s =
-    connection s.args.clock s.args.name.now s.args.extension-came s.args.extension.now s.args.hash.now
-    s.args.checks
-
-passed : (c : walk.Else1 (good.Asked, good.Learnt, size.Asked, size.Learnt, put.Asked, put.Learnt) own.Pre own.Post)
-    → recordable (came c.before.before.before.before.before.before) ≡ true
+-- the first test is whether the call can be recorded
+good-recordable : (k : Connection) → good_sizes k.clock (length k.name) k.extension_came (length k.extension) (length k.hash) ≡ true → recordable k ≡ true
 unfolding recordable
-passed c = sym c.before.good-sizes.ensures ∙ not-false _ c.if1.false
+good-recordable k h = h
+
+bad-recordable : (k : Connection) → good_sizes k.clock (length k.name) k.extension_came (length k.extension) (length k.hash) ≡ false → recordable k ≡ false
+unfolding recordable
+bad-recordable k h = h
 
 pub returns-then-not-good_sizes : goal.returns-then-not-good_sizes
-unfolding recordable
 returns-then-not-good_sizes c =
-    bad-part (recordable (came c)) (call_bytes (came c)) c.args.out.now (sym c.good_sizes.ensures ∙ c.if-not-good_sizes.true)
+    let a = c.args in
+    let k = connection a.clock a.name.now a.extension_came a.extension.now a.hash.now a.checks in
+    let w = bad-part (recordable k) (call_bytes k) a.out.now (bad-recordable k (sym c.good_sizes.ensures ∙ c.if-not-good_sizes.true)) in
+    record { answer = w.0; written = w.1 }
 
 pub overflow_add-name : goal.overflow_add-name
 overflow_add-name c =
-    let w = sizes (came c) (passed c) in
+    let a = c.args in
+    let k = connection a.clock a.name.now a.extension_came a.extension.now a.hash.now a.checks in
+    let fine = good-recordable k (sym c.good_sizes.ensures ∙ c.if-not-good_sizes.false) in
+    let w = sizes k fine in
     omega (arith, w.name, w.extension, c.extension_size.ensures)
 
 pub overflow_add-name-2 : goal.overflow_add-name-2
 overflow_add-name-2 c =
-    let w = sizes (came c) (passed c) in
+    let a = c.args in
+    let k = connection a.clock a.name.now a.extension_came a.extension.now a.hash.now a.checks in
+    let fine = good-recordable k (sym c.good_sizes.ensures ∙ c.if-not-good_sizes.false) in
+    let w = sizes k fine in
     omega (arith, w.name, w.extension, c.extension_size.ensures)
 
 pub returns-then-out-name : goal.returns-then-out-name
 returns-then-out-name c =
-    let fine = passed c in
-    no-space (recordable (came c)) (call_bytes (came c)) c.args.out.now fine
-    (omega (arith, call_length (came c), (sizes (came c) fine).hash, c.extension_size.ensures))
+    let a = c.args in
+    let k = connection a.clock a.name.now a.extension_came a.extension.now a.hash.now a.checks in
+    let fine = good-recordable k (sym c.good_sizes.ensures ∙ c.if-not-good_sizes.false) in
+    let w =
+    no-space (recordable k) (call_bytes k) a.out.now fine
+    (omega (arith, call_length k, (sizes k fine).hash, c.extension_size.ensures)) in
+    record { answer = w.0; written = w.1 }
 
 pub put_call-requires : goal.put_call-requires
 put_call-requires c =
-    let w = sizes (came c) (passed c) in
+    let a = c.args in
+    let k = connection a.clock a.name.now a.extension_came a.extension.now a.hash.now a.checks in
+    let fine = good-recordable k (sym c.good_sizes.ensures ∙ c.if-not-good_sizes.false) in
+    let w = sizes k fine in
     (w.clock, w.name, w.hash, w.extension, omega (arith, c.extension_size.ensures))
 
 pub returns : goal.returns
 returns c =
-    let fine = passed c in
-    let w = written (recordable (came c)) (call_bytes (came c)) c.args.out.now fine
-    (omega (arith, call_length (came c), (sizes (came c) fine).hash, c.extension_size.ensures, c.if-out-name.false)) in
+    let a = c.args in
+    let k = connection a.clock a.name.now a.extension_came a.extension.now a.hash.now a.checks in
+    let fine = good-recordable k (sym c.good_sizes.ensures ∙ c.if-not-good_sizes.false) in
+    let w =
+    written (recordable k) (call_bytes k) a.out.now fine
+    (omega (arith, call_length k, (sizes k fine).hash, c.extension_size.ensures, c.if-out-name.false)) in
     let e = c.put_call.ensures in
     record { answer = ap Written e.0 ∙ w.0; written = e.1 ∙ w.1 }

@@ -6,14 +6,6 @@ use Rattle.host_name.specs.Name.{well_formed}
 use Rattle.padded_name.proofs.PaddedNames.{none-formed}
 use Rattle.padded_name.proofs.well_formed.Goals as goal
 
--- TODO need slice-bounds-well-formed-start
--- part-well-formed-start : tie.Need-slice-bounds-well-formed-start
--- part-well-formed-start c = search rules
-
--- TODO need slice-bounds-well-formed-end
--- part-well-formed-end : tie.Need-slice-bounds-well-formed-end
--- part-well-formed-end c = search rules
-
 pub returns-then-n-eq0 : goal.returns-then-n-eq0
 returns-then-n-eq0 c = sym (none-formed c.args.padded.now c.args.n _ c.if-n-eq0.true)
 

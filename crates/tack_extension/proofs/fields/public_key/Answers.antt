@@ -4,14 +4,6 @@ use Rattle.octets.specs.Octets.{part}
 use Rattle.tack_extension.specs.Tack.{public_key}
 use Rattle.tack_extension.proofs.fields.public_key.Goals as goal
 
--- TODO need slice-bounds-result-start
--- part-result-start : tie.Need-slice-bounds-result-start
--- part-result-start c = search rules
-
--- TODO need slice-bounds-result-end
--- part-result-end : tie.Need-slice-bounds-result-end
--- part-result-end c = search rules
-
 pub returns : goal.returns
 unfolding part public_key
 returns c = refl
