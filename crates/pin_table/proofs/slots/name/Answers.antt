@@ -1,9 +1,8 @@
 -- The name is lent whole.
-use Prim.Native.Nat.{◌+◌}
 use native.Mathlib.Omega.{arith}
 use lib.ListN.{get_or}
 use Rattle.octets.proofs.Parts.{part-lent}
 use Rattle.pin_table.proofs.slots.name.Goals as goal
 
 pub returns : goal.returns
-returns c = part-lent c.args.s.now 16 (get_or c.args.s.now 2 0) (16 + c.name_length-end.result) (omega arith) (omega arith)
+returns c = part-lent c.args.s.now 16 (get_or c.args.s.now 2 0) _ (omega arith) (omega arith)
