@@ -9,11 +9,11 @@ use Rattle.pin_refusals_two.proofs.check_tack.Goals as goal
 
 pub returns-then-tack-eq0 : goal.returns-then-tack-eq0
 returns-then-tack-eq0 c =
-    simp (part_none c.args.clock.0 c.args.hash.now c.args.key-is-point c.args.signature-correct c.args.tack.now c.if-tack-eq0.true)
+    simp (part_none c.args.clock.0 c.args.hash.now c.args.key_is_point c.args.signature_correct c.args.tack.now c.if-tack-eq0.true)
 
 pub returns-then-not-key_is_point : goal.returns-then-not-key_is_point
 returns-then-not-key_is_point c =
-    simp (part-there c.args.clock.0 c.args.hash.now c.args.key-is-point c.args.signature-correct c.args.tack.now c.if-tack-eq0.false, c.if-not-key_is_point.true)
+    rw (part-there c.args.clock.0 c.args.hash.now c.args.key_is_point c.args.signature_correct c.args.tack.now c.if-tack-eq0.false) (simp (c.if-not-key_is_point.true))
 
 pub generation-requires : goal.generation-requires
 generation-requires c =
@@ -25,7 +25,7 @@ min_generation-requires c =
 
 pub returns-then-generation-min_generation : goal.returns-then-generation-min_generation
 returns-then-generation-min_generation c =
-    simp (part-there c.args.clock.0 c.args.hash.now c.args.key-is-point c.args.signature-correct c.args.tack.now c.if-tack-eq0.false, c.if-not-key_is_point.false, below c.generation.ensures c.min_generation.ensures c.if-generation-min_generation.true)
+    rw (part-there c.args.clock.0 c.args.hash.now c.args.key_is_point c.args.signature_correct c.args.tack.now c.if-tack-eq0.false) (simp (c.if-not-key_is_point.false, below c.generation.ensures c.min_generation.ensures c.if-generation-min_generation.true))
 
 pub expiration-requires : goal.expiration-requires
 expiration-requires c =
@@ -33,7 +33,7 @@ expiration-requires c =
 
 pub returns-then-expiration-count : goal.returns-then-expiration-count
 returns-then-expiration-count c =
-    simp (part-there c.args.clock.0 c.args.hash.now c.args.key-is-point c.args.signature-correct c.args.tack.now c.if-tack-eq0.false, c.if-not-key_is_point.false, not-below c.generation.ensures c.min_generation.ensures c.if-generation-min_generation.false, at_most c.expiration.ensures c.count.ensures c.if-expiration-count.true)
+    rw (part-there c.args.clock.0 c.args.hash.now c.args.key_is_point c.args.signature_correct c.args.tack.now c.if-tack-eq0.false) (simp (c.if-not-key_is_point.false, not-below c.generation.ensures c.min_generation.ensures c.if-generation-min_generation.false, at_most c.expiration.ensures c.count.ensures c.if-expiration-count.true))
 
 pub targets-requires : goal.targets-requires
 targets-requires c =
@@ -41,12 +41,12 @@ targets-requires c =
 
 pub returns-then-not-targets : goal.returns-then-not-targets
 returns-then-not-targets c =
-    simp (part-there c.args.clock.0 c.args.hash.now c.args.key-is-point c.args.signature-correct c.args.tack.now c.if-tack-eq0.false, c.if-not-key_is_point.false, not-below c.generation.ensures c.min_generation.ensures c.if-generation-min_generation.false, above c.expiration.ensures c.count.ensures c.if-expiration-count.false, sym c.targets.ensures ∙ c.if-not-targets.true)
+    rw (part-there c.args.clock.0 c.args.hash.now c.args.key_is_point c.args.signature_correct c.args.tack.now c.if-tack-eq0.false) (simp (c.if-not-key_is_point.false, not-below c.generation.ensures c.min_generation.ensures c.if-generation-min_generation.false, above c.expiration.ensures c.count.ensures c.if-expiration-count.false, sym c.targets.ensures ∙ c.if-not-targets.true))
 
 pub returns-then-not-signature_correct : goal.returns-then-not-signature_correct
 returns-then-not-signature_correct c =
-    simp (part-there c.args.clock.0 c.args.hash.now c.args.key-is-point c.args.signature-correct c.args.tack.now c.if-tack-eq0.false, c.if-not-key_is_point.false, not-below c.generation.ensures c.min_generation.ensures c.if-generation-min_generation.false, above c.expiration.ensures c.count.ensures c.if-expiration-count.false, sym c.targets.ensures ∙ c.if-not-targets.false, c.if-not-signature_correct.true)
+    rw (part-there c.args.clock.0 c.args.hash.now c.args.key_is_point c.args.signature_correct c.args.tack.now c.if-tack-eq0.false) (simp (c.if-not-key_is_point.false, not-below c.generation.ensures c.min_generation.ensures c.if-generation-min_generation.false, above c.expiration.ensures c.count.ensures c.if-expiration-count.false, sym c.targets.ensures ∙ c.if-not-targets.false, c.if-not-signature_correct.true))
 
 pub returns : goal.returns
 returns c =
-    simp (part-there c.args.clock.0 c.args.hash.now c.args.key-is-point c.args.signature-correct c.args.tack.now c.if-tack-eq0.false, c.if-not-key_is_point.false, not-below c.generation.ensures c.min_generation.ensures c.if-generation-min_generation.false, above c.expiration.ensures c.count.ensures c.if-expiration-count.false, sym c.targets.ensures ∙ c.if-not-targets.false, c.if-not-signature_correct.false)
+    rw (part-there c.args.clock.0 c.args.hash.now c.args.key_is_point c.args.signature_correct c.args.tack.now c.if-tack-eq0.false) (simp (c.if-not-key_is_point.false, not-below c.generation.ensures c.min_generation.ensures c.if-generation-min_generation.false, above c.expiration.ensures c.count.ensures c.if-expiration-count.false, sym c.targets.ensures ∙ c.if-not-targets.false, c.if-not-signature_correct.false))

@@ -14,28 +14,28 @@ pub returns-in-Refused : goal.returns-in-Refused
 returns-in-Refused c =
     refused-first c.args.clock.0 c.args.hash.now c.args.checks (decode c.args.area.now) c.args.first.now
     c.args.second.now c.one_key.ensures c.if-one_key.false
-    c.check_tack.ensures c.refusal-1.given.1
+    c.check_tack.ensures c.in-Refused.is
 
 pub returns-in-Refused-check_tack : goal.returns-in-Refused-check_tack
 returns-in-Refused-check_tack c =
     refused-second c.args.clock.0 c.args.hash.now c.args.checks (decode c.args.area.now) c.args.first.now
     c.args.second.now c.one_key.ensures c.if-one_key.false
     c.check_tack.ensures
-    c.enum_told-1.given.1 c.check_tack-2.ensures
-    c.refusal-in-Refused-check_tack-2-1.given.1
+    c.in_default.is c.check_tack-2.ensures
+    c.in-Refused-check_tack.is
 
 pub returns-then-either_revoked : goal.returns-then-either_revoked
 returns-then-either_revoked c =
     passed-both c.args.clock.0 c.args.hash.now c.args.checks (decode c.args.area.now) c.args.first.now
     c.args.second.now c.one_key.ensures c.if-one_key.false
     c.check_tack.ensures
-    c.enum_told-1.given.1 c.check_tack-2.ensures
-    c.enum_told-in_default-check_tack-1.given.1 c.either_revoked.ensures true c.if-either_revoked.true
+    c.in_default.is c.check_tack-2.ensures
+    c.in_default-check_tack.is c.either_revoked.ensures true c.if-either_revoked.true
 
 pub returns : goal.returns
 returns c =
     passed-both c.args.clock.0 c.args.hash.now c.args.checks (decode c.args.area.now) c.args.first.now
     c.args.second.now c.one_key.ensures c.if-one_key.false
     c.check_tack.ensures
-    c.enum_told-1.given.1 c.check_tack-2.ensures
-    c.enum_told-in_default-check_tack-1.given.1 c.either_revoked.ensures false c.if-either_revoked.false
+    c.in_default.is c.check_tack-2.ensures
+    c.in_default-check_tack.is c.either_revoked.ensures false c.if-either_revoked.false

@@ -10,11 +10,11 @@ use Rattle.pin_creation.proofs.create.add.Goals as goal
 pub returns-in_default : goal.returns-in_default
 returns-in_default c =
     absurd (add-refused c.args.name.now c.args.tack.now c.args.clock.0 (decode c.args.area.now) c.requires.3 c.requires.5 c.requires.4
-    (names-full _ c.requires.0.fits.name_slots (sym c.enum_told-1.given.1 ∙ c.free_name.ensures)))
+    (names-full _ c.requires.0.fits.name_slots c.in_default.ensures))
 
 pub store_new-requires : goal.store_new-requires
 store_new-requires c =
-    let f = name-free-at _ c.requires.0.fits.name_slots _ (sym c.n-1.given.1 ∙ c.free_name.ensures) in (
+    let f = name-free-at _ c.requires.0.fits.name_slots _ c.in-At.ensures in (
       c.requires.0,
       f.below,
       c.requires.1,
@@ -26,4 +26,4 @@ store_new-requires c =
 pub returns : goal.returns
 returns c =
     added c.args.name.now c.args.tack.now c.args.clock.0 (decode c.args.area.now) c.requires.3 c.requires.5 c.requires.4 _
-    (name-free-at _ c.requires.0.fits.name_slots _ (sym c.n-1.given.1 ∙ c.free_name.ensures)) c.store_new.ensures
+    (name-free-at _ c.requires.0.fits.name_slots _ c.in-At.ensures) c.store_new.ensures

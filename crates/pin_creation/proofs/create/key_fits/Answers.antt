@@ -13,15 +13,15 @@ find_key-requires c =
 pub returns-in-At : goal.returns-in-At
 returns-in-At c =
     let tack = c.args.tack.now in
-    key-room tack c.requires.0 (tack-key-at tack c.public_key.ensures c.requires.0 _ (sym c.enum_told-1.given.1 ∙ c.find_key.ensures)).recorded
+    key-room tack c.requires.0 (tack-key-at tack c.public_key.ensures c.requires.0 _ c.in-At.ensures).recorded
 
 pub returns-in-At-free_key : goal.returns-in-At-free_key
 returns-in-At-free_key c =
-    slot-room c.args.tack.now c.requires.0 (key-free-at _ c.requires.0.fits.key_slots _ (sym c.enum_told-in-At-free_key-1.given.1 ∙ c.free_key.ensures)).room
+    slot-room c.args.tack.now c.requires.0 (key-free-at _ c.requires.0.fits.key_slots _ c.in-At-free_key.ensures).room
 
 pub returns : goal.returns
 returns c =
     let tack = c.args.tack.now in
     no-key-room tack c.requires.0
-    (tack-key-absent tack c.public_key.ensures c.requires.0 (sym c.enum_told-in_default-1.given.1 ∙ c.find_key.ensures))
-    (keys-full _ c.requires.0.fits.key_slots (sym c.enum_told-in_default-free_key-1.given.1 ∙ c.free_key.ensures))
+    (tack-key-absent tack c.public_key.ensures c.requires.0 c.in_default.ensures)
+    (keys-full _ c.requires.0.fits.key_slots c.in_default-free_key.ensures)

@@ -1,6 +1,5 @@
 use mathlib.Core.Path.{sym, ◌∙◌}
 use mathlib.Core.Bool.{false}
-use mathlib.Core.Logic.{⊎_elim}
 use Prim.Native.Nat.{◌-◌, ◌≤◌}
 use native.Mathlib.Omega.{arith}
 use borrow.Author.Rules.{rules}
@@ -8,6 +7,7 @@ use borrow.Author.Count.{below_more, below_none}
 use Rattle.pin_model.specs.Layout.{decode}
 use Rattle.pin_creation.proofs.RoomFound.{pin_at, Alone, alone-own, alone-other, not_last, is_last}
 use Rattle.pin_creation.proofs.create.last_on_key.Goals as goal
+use Rattle.pin_creation.proofs.create.last_on_key.Goals.{then-m-own+else-refers_to, else-m-own}
 
 pub loop-m-init : goal.loop-m-init
 loop-m-init c = (omega arith, below_none _)
@@ -28,8 +28,10 @@ loop-m-preserved c =
     let m = c.loop-m.m in (
       omega arith,
       below_more _ _ c.loop-m.invariant.1
-          (⊎_elim (λ w. alone-other c.requires.0 n k m false w.0.taken (sym w.1.ensures ∙ w.2.left))
-          (λ w. alone-own c.requires.0 n k c.requires.1 m w.left) c.if-m-own.branch),
+          (elim c.if-m-own.branch [
+            then-m-own+else-refers_to w ↦ alone-other c.requires.0 n k m false w.if-m-own.true (sym w.refers_to.ensures ∙ w.if-refers_to.false)
+          | else-m-own w ↦ alone-own c.requires.0 n k c.requires.1 m w.if-m-own.false
+          ]),
     )
 
 pub returns : goal.returns

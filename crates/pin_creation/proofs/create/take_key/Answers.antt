@@ -13,24 +13,24 @@ find_key-requires c =
 pub returns-in-At : goal.returns-in-At
 returns-in-At c =
     let tack = c.args.tack.now in
-    key-kept tack c.requires.0 _ (tack-key-at tack c.public_key-key.ensures c.requires.0 _ (sym c.k-1.given.1 ∙ c.find_key.ensures))
+    key-kept tack c.requires.0 _ (tack-key-at tack c.public_key-key.ensures c.requires.0 _ c.in-At.ensures)
 
 pub returns-in_default-free_key : goal.returns-in_default-free_key
 returns-in_default-free_key c =
     let tack = c.args.tack.now in
     absurd
     (key-refused tack c.requires.0
-    (tack-key-absent tack c.public_key-key.ensures c.requires.0 (sym c.enum_told-1.given.1 ∙ c.find_key.ensures))
-    (keys-full _ c.requires.0.fits.key_slots (sym c.enum_told-in_default-free_key-1.given.1 ∙ c.free_key.ensures)) c.requires.2)
+    (tack-key-absent tack c.public_key-key.ensures c.requires.0 c.in_default.ensures)
+    (keys-full _ c.requires.0.fits.key_slots c.in_default-free_key.ensures) c.requires.2)
 
 pub store_key-requires : goal.store_key-requires
 store_key-requires c =
-    let f = key-free-at _ c.requires.0.fits.key_slots _ (sym c.k-in-At-free_key-1.given.1 ∙ c.free_key.ensures) in (
+    let f = key-free-at _ c.requires.0.fits.key_slots _ c.in-At-free_key.ensures in (
       c.requires.0,
       f.below,
       f.free,
       key-length c.args.tack.now c.public_key-key.ensures c.requires.1,
-      key-absent _ c.requires.0.fits.key_slots _ (sym c.enum_told-1.given.1 ∙ c.find_key.ensures),
+      key-absent _ c.requires.0.fits.key_slots _ c.in_default.ensures,
     )
 
 pub returns : goal.returns
@@ -38,5 +38,5 @@ returns c =
     let tack = c.args.tack.now in
     let key = c.public_key-key.ensures in
     key-made tack c.requires.0
-    (tack-key-absent tack key c.requires.0 (sym c.enum_told-1.given.1 ∙ c.find_key.ensures)) _
-    (key-free-at _ c.requires.0.fits.key_slots _ (sym c.k-in-At-free_key-1.given.1 ∙ c.free_key.ensures)) key c.min_generation.ensures c.store_key.ensures
+    (tack-key-absent tack key c.requires.0 c.in_default.ensures) _
+    (key-free-at _ c.requires.0.fits.key_slots _ c.in-At-free_key.ensures) key c.min_generation.ensures c.store_key.ensures

@@ -13,18 +13,18 @@ use Rattle.pin_creation.proofs.create.wants_record.Goals as goal
 pub returns-then-not-may_record : goal.returns-then-not-may_record
 returns-then-not-may_record c =
     by-may-record c.args.name.now c.args.tack.now c.args.clock.0 (decode c.args.area.now)
-    (not-true c.args.may-record c.if-not-may_record.true) refl
+    c.if-not-may_record.true refl
 
 pub returns-in_default : goal.returns-in_default
 returns-in_default c =
     by-may-record c.args.name.now c.args.tack.now c.args.clock.0 (decode c.args.area.now)
-    (not-false c.args.may-record c.if-not-may_record.false)
+    c.if-not-may_record.false
     (wanted-new c.args.name.now c.args.tack.now c.args.clock.0 c.requires.0
-    (name-absent _ c.requires.0.fits.name_slots c.args.name.now (sym c.enum_told-1.given.1 ∙ c.find_name.ensures)))
+    (name-absent _ c.requires.0.fits.name_slots c.args.name.now c.in_default.ensures))
 
 pub key_of-requires : goal.key_of-requires
 key_of-requires c =
-    let x = name-found-at _ c.requires.0.fits.name_slots c.args.name.now _ (sym c.n-1.given.1 ∙ c.find_name.ensures) in
+    let x = name-found-at _ c.requires.0.fits.name_slots c.args.name.now _ c.in-At.ensures in
     (c.requires.0, x.below, x.in_use)
 
 pub holds_key-requires : goal.holds_key-requires
@@ -33,21 +33,21 @@ holds_key-requires c =
 
 pub returns-then-holds_key : goal.returns-then-holds_key
 returns-then-holds_key c =
-    let x = name-found-at _ c.requires.0.fits.name_slots c.args.name.now _ (sym c.n-1.given.1 ∙ c.find_name.ensures) in
+    let x = name-found-at _ c.requires.0.fits.name_slots c.args.name.now _ c.in-At.ensures in
     by-may-record c.args.name.now c.args.tack.now c.args.clock.0 (decode c.args.area.now)
-    (not-false c.args.may-record c.if-not-may_record.false)
+    c.if-not-may_record.false
     (wanted-own c.args.name.now c.args.tack.now c.args.clock.0 c.requires.0 c.requires.2 x
     c.key_of.ensures.1 c.public_key.ensures (sym c.holds_key.ensures ∙ c.if-holds_key.true))
 
 pub is_active-requires : goal.is_active-requires
 is_active-requires c =
-    (c.requires.0, (name-found-at _ c.requires.0.fits.name_slots c.args.name.now _ (sym c.n-1.given.1 ∙ c.find_name.ensures)).below)
+    (c.requires.0, (name-found-at _ c.requires.0.fits.name_slots c.args.name.now _ c.in-At.ensures).below)
 
 pub returns : goal.returns
 returns c =
-    let x = name-found-at _ c.requires.0.fits.name_slots c.args.name.now _ (sym c.n-1.given.1 ∙ c.find_name.ensures) in
+    let x = name-found-at _ c.requires.0.fits.name_slots c.args.name.now _ c.in-At.ensures in
     by-may-record c.args.name.now c.args.tack.now c.args.clock.0 (decode c.args.area.now)
-    (not-false c.args.may-record c.if-not-may_record.false)
+    c.if-not-may_record.false
     (ap not c.is_active.ensures
     ∙ wanted-other c.args.name.now c.args.tack.now c.args.clock.0 c.requires.0 c.requires.2 x
     c.key_of.ensures.1 c.public_key.ensures (sym c.holds_key.ensures ∙ c.if-holds_key.false))

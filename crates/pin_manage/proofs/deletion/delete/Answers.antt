@@ -12,17 +12,16 @@ use Rattle.pin_model.proofs.LongNames.{delete-handed}
 use Rattle.pin_manage.proofs.deletion.delete.Goals as goal
 
 pub slice_bounds-folded-end : goal.slice_bounds-folded-end
-slice_bounds-folded-end c = sym (room c.args.name.now c.fold-n.ensures)
+slice_bounds-folded-end c = sym (room c.args.name.now c.fold-n.ensures.length c.fold-n.ensures.bytes)
 
 pub slice_bounds-delete_folded-end : goal.slice_bounds-delete_folded-end
 slice_bounds-delete_folded-end c =
     let s = c.args.name.now in
-    let wrote = c.fold-n.ensures in
-    sym (length-take-le _ _ (omega (arith, room s wrote, wrote.0, length-take 254 s)))
+    sym (length-take-le _ _ (omega (arith, room s c.fold-n.ensures.length c.fold-n.ensures.bytes, c.fold-n.ensures.length, length-take 254 s)))
 
 pub returns : goal.returns
 returns c =
     let a = c.args in
-    let its = front a.name.now c.fold-n.ensures in
+    let its = front a.name.now c.fold-n.ensures.length c.fold-n.ensures.bytes in
     let same = delete-handed a.name.now a.area.now in
-    let w = c.delete_folded.ensures in record { answer = w.0 ∙ ap (λ (name : List ℕ). answer (delete name) a.area.now) its ∙ same.0; area = w.1 ∙ ap (λ (name : List ℕ). area_after (delete name) a.area.now) its ∙ same.1 }
+    let w = c.delete_folded.ensures in record { answer = w.answer ∙ ap (λ (name : List ℕ). answer (delete name) a.area.now) its ∙ same.0; area = w.area ∙ ap (λ (name : List ℕ). area_after (delete name) a.area.now) its ∙ same.1 }

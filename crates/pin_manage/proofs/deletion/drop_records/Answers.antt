@@ -1,5 +1,4 @@
 use mathlib.Core.Path.{sym, ◌∙◌}
-use mathlib.Core.Logic.{⊎_elim}
 use Prim.Native.Nat.{◌-◌}
 use native.Mathlib.Omega.{arith}
 use borrow.Author.Rules.{rules}
@@ -11,6 +10,7 @@ use Rattle.pin_records.proofs.Placed.{first-before}
 use Rattle.pin_records.proofs.HeldSlots.{holds-stored}
 use Rattle.pin_records.proofs.DroppedNames.{dropped, drop-start, drop-stays, drop-goes, drop-end}
 use Rattle.pin_manage.proofs.deletion.drop_records.Goals as goal
+use Rattle.pin_manage.proofs.deletion.drop_records.Goals.{then-holds_name, else-holds_name}
 
 pub loop-n-init : goal.loop-n-init
 loop-n-init c =
@@ -28,10 +28,10 @@ pub loop-n-preserved : goal.loop-n-preserved
 loop-n-preserved c =
     let l = c.loop-n in
     let t = decode c.args.area.now in
-    ⊎_elim
-    (λ w. drop-goes (name_is c.args.name.now) t l.n l.invariant w.5 (sym c.holds_name.ensures ∙ w.0.taken) w.2.ensures)
-    (λ w. drop-stays (name_is c.args.name.now) t l.n l.invariant w.1 (sym c.holds_name.ensures ∙ w.0.left))
-    c.if-holds_name.branch
+    elim c.if-holds_name.branch [
+      then-holds_name w ↦ drop-goes (name_is c.args.name.now) t l.n l.invariant w.area-is (sym c.holds_name.ensures ∙ w.if-holds_name.true) w.clear_name.ensures
+    | else-holds_name w ↦ drop-stays (name_is c.args.name.now) t l.n l.invariant w.area-is (sym c.holds_name.ensures ∙ w.if-holds_name.false)
+    ]
 
 pub shape_of-area : goal.shape_of-area
 shape_of-area c = c.loop-n.invariant.long ∙ sym c.requires.0.long

@@ -12,18 +12,17 @@ use Rattle.pin_model.proofs.LongNames.{inspect-handed}
 use Rattle.pin_manage.proofs.inspection.inspect.Goals as goal
 
 pub slice_bounds-folded-end : goal.slice_bounds-folded-end
-slice_bounds-folded-end c = sym (room c.args.name.now c.fold-n.ensures)
+slice_bounds-folded-end c = sym (room c.args.name.now c.fold-n.ensures.length c.fold-n.ensures.bytes)
 
 pub slice_bounds-inspect_folded-end : goal.slice_bounds-inspect_folded-end
 slice_bounds-inspect_folded-end c =
     let s = c.args.name.now in
-    let wrote = c.fold-n.ensures in
-    sym (length-take-le _ _ (omega (arith, room s wrote, wrote.0, length-take 254 s)))
+    sym (length-take-le _ _ (omega (arith, room s c.fold-n.ensures.length c.fold-n.ensures.bytes, c.fold-n.ensures.length, length-take 254 s)))
 
 pub returns : goal.returns
 returns c =
     let a = c.args in
-    let its = front a.name.now c.fold-n.ensures in
+    let its = front a.name.now c.fold-n.ensures.length c.fold-n.ensures.bytes in
     c.inspect_folded.ensures
     ∙ ap (λ (name : List ℕ). answer (inspect a.second name a.clock) a.area.now) its
     ∙ (inspect-handed a.second a.name.now a.clock a.area.now).0

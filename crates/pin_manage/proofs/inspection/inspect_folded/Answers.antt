@@ -16,41 +16,41 @@ use Rattle.pin_manage.proofs.inspection.inspect_folded.Goals as goal
 pub returns-in-Refused : goal.returns-in-Refused
 returns-in-Refused c =
     let a = c.args in
-    inspect-refused a.second a.area.now a.name.now a.clock _ (sym c.check_name.ensures ∙ ap checked_number c.refusal-1.given.1)
+    inspect-refused a.second a.area.now a.name.now a.clock _ (sym c.in-Refused.ensures)
 
 pub returns-in_default-of_clock : goal.returns-in_default-of_clock
 returns-in_default-of_clock c =
     let a = c.args in
-    inspect-late a.second a.area.now a.name.now a.clock (sym c.check_name.ensures ∙ ap checked_number c.enum_told-1.given.1)
-    (above _ (sym c.enum_told-in_default-of_clock-1.given.1 ∙ c.of_clock.ensures))
+    inspect-late a.second a.area.now a.name.now a.clock (sym c.in_default.ensures)
+    (above _ c.in_default-of_clock.ensures)
 
 pub find_record-requires : goal.find_record-requires
 find_record-requires c =
     let a = c.args in
-    (ready a.area.now (name_test a.name.now) (λ i. (c.shared_slice_known-1.given i).fits) (sym c.check_name.ensures ∙ ap checked_number c.enum_told-1.given.1)).stored
+    (ready a.area.now (name_test a.name.now) (λ i. (c.type_inv.area i).fits) (sym c.in_default.ensures)).stored
 
 pub returns-in_default-find_record : goal.returns-in_default-find_record
 returns-in_default-find_record c =
     let a = c.args in
-    let passed = sym c.check_name.ensures ∙ ap checked_number c.enum_told-1.given.1 in
-    let t = within a.clock c.at-1.given.0.0 (sym c.at-1.given.1 ∙ c.of_clock.ensures) in
+    let passed = sym c.in_default.ensures in
+    let t = within a.clock c.in-At.at c.in-At.ensures in
     inspect-nothing a.second a.area.now a.name.now a.clock passed t.passes
-    (ready a.area.now (name_test a.name.now) (λ i. (c.shared_slice_known-1.given i).fits) passed).stored
-    (sym c.enum_told-in_default-find_record-1.given.1 ∙ c.find_record.ensures)
+    (ready a.area.now (name_test a.name.now) (λ i. (c.type_inv.area i).fits) passed).stored
+    c.in_default-find_record.ensures
 
 pub inspect_slot-requires : goal.inspect_slot-requires
 inspect_slot-requires c =
     let a = c.args in
-    let w = ready a.area.now (name_test a.name.now) (λ i. (c.shared_slice_known-1.given i).fits) (sym c.check_name.ensures ∙ ap checked_number c.enum_told-1.given.1) in
-    let u = record-used a.second a.name.now (decode a.area.now).names w.stored.fits.name_slots c.n-1.given.0.0 (sym c.n-1.given.1 ∙ c.find_record.ensures) in
+    let w = ready a.area.now (name_test a.name.now) (λ i. (c.type_inv.area i).fits) (sym c.in_default.ensures) in
+    let u = record-used a.second a.name.now (decode a.area.now).names w.stored.fits.name_slots c.in-At-find_record.n c.in-At-find_record.ensures in
     (w.stored, u.0, u.1)
 
 pub returns : goal.returns
 returns c =
-    let n = c.n-1.given in
+    let n = c.in-At-find_record.n in
     let a = c.args in
-    let t = within a.clock c.at-1.given.0.0 (sym c.at-1.given.1 ∙ c.of_clock.ensures) in
+    let t = within a.clock c.in-At.at c.in-At.ensures in
     c.inspect_slot.ensures
-    ∙ ap (λ (clock : ℕ). inspected_slot clock (decode a.area.now).keys (get_or (decode a.area.now).names n.0.0.0 none)) t.its
-    ∙ inspect-found a.second a.area.now a.name.now a.clock (sym c.check_name.ensures ∙ ap checked_number c.enum_told-1.given.1) t.passes n.0.0
-    (sym n.1 ∙ c.find_record.ensures)
+    ∙ ap (λ (clock : ℕ). inspected_slot clock (decode a.area.now).keys (get_or (decode a.area.now).names n.0 none)) t.its
+    ∙ inspect-found a.second a.area.now a.name.now a.clock (sym c.in_default.ensures) t.passes n
+    c.in-At-find_record.ensures

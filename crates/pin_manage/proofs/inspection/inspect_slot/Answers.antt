@@ -16,12 +16,12 @@ returns-in-Absent c =
     said-without-end c.args.clock.0 (decode c.args.area.now).keys _ _ (get_or (decode c.args.area.now).names c.args.n.0 none) c.requires.2
     (c.floor-floor.ensures ∙ ap (λ (k : ℕ). floor_at (get_or (decode c.args.area.now).keys k none)) c.key_of.ensures.1)
     (c.count-initial.ensures ∙ c.initial.ensures)
-    (sym c.enum_told-1.given.1 ∙ c.end.ensures)
+    c.in-Absent.ensures
 
 pub returns-in-At : goal.returns-in-At
 returns-in-At c =
-    answer-with-end _ _ c.end-1.given.0.0.0 c.args.clock.0 c.count.ensures (difference-kept c.end-1.given.0.0.0 c.args.clock.0 (omega arith) (omega arith) _ c.minutes_between.ensures)
-    ∙ said-with-end c.args.clock.0 (decode c.args.area.now).keys _ _ (get_or (decode c.args.area.now).names c.args.n.0 none) c.end-1.given.0.0 c.requires.2
+    answer-with-end _ _ c.in-At.end.0 c.args.clock.0 c.count.ensures (difference-kept c.in-At.end.0 c.args.clock.0 (omega arith) (omega arith) _ c.minutes_between.ensures)
+    ∙ said-with-end c.args.clock.0 (decode c.args.area.now).keys _ _ (get_or (decode c.args.area.now).names c.args.n.0 none) c.in-At.end c.requires.2
     (c.floor-floor.ensures ∙ ap (λ (k : ℕ). floor_at (get_or (decode c.args.area.now).keys k none)) c.key_of.ensures.1)
     (c.count-initial.ensures ∙ c.initial.ensures)
-    (sym c.end-1.given.1 ∙ c.end.ensures)
+    c.in-At.ensures

@@ -4,9 +4,12 @@ use Rattle.pin_manage.proofs.Started.{start-refused, started}
 use Rattle.pin_manage.proofs.starting.start.Goals as goal
 
 pub returns-then-area-ne-AREA_LENGTH : goal.returns-then-area-ne-AREA_LENGTH
-returns-then-area-ne-AREA_LENGTH c = start-refused c.args.edition-two c.args.area.now c.if-area-ne-AREA_LENGTH.true
+returns-then-area-ne-AREA_LENGTH c =
+    let w = start-refused c.args.edition_two c.args.area.now c.if-area-ne-AREA_LENGTH.true in
+    record { answer = w.0; area = w.1 }
 
 pub returns : goal.returns
 returns c =
     let a = c.args in
-    started a.edition-two a.area.now c.if-area-ne-AREA_LENGTH.false c.put_zeros.ensures.1
+    let w = started a.edition_two a.area.now c.if-area-ne-AREA_LENGTH.false c.put_zeros.ensures.1 in
+    record { answer = w.0; area = w.1 }

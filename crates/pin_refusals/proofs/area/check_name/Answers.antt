@@ -8,16 +8,16 @@ use Rattle.pin_refusals.proofs.area.check_name.Goals as goal
 pub returns-in-Refused : goal.returns-in-Refused
 returns-in-Refused c =
     sym (named-refused c.args.area.now c.args.name.now _
-    (sym c.check_area.ensures ∙ ap checked_number c.refusal-1.given.1))
+    (sym c.in-Refused.ensures))
 
 pub returns-then-well_formed : goal.returns-then-well_formed
 returns-then-well_formed c =
     sym (named-passes c.args.area.now c.args.name.now
-    (sym c.check_area.ensures ∙ ap checked_number c.enum_told-1.given.1)
+    (sym c.in_default.ensures)
     (sym c.well_formed-2.ensures ∙ c.if-well_formed.true))
 
 pub returns : goal.returns
 returns c =
     sym (named-malformed c.args.area.now c.args.name.now
-    (sym c.check_area.ensures ∙ ap checked_number c.enum_told-1.given.1)
+    (sym c.in_default.ensures)
     (sym c.well_formed-2.ensures ∙ c.if-well_formed.false))

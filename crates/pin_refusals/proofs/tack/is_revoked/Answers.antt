@@ -13,14 +13,14 @@ find_key-requires c = (c.requires.0, ap length c.public_key.ensures ∙ key-size
 
 pub returns-in_default : goal.returns-in_default
 returns-in_default c =
-    sym (not-revoked c.requires.0 _ _ c.public_key.ensures (sym c.enum_told-1.given.1 ∙ c.find_key.ensures))
+    sym (not-revoked c.requires.0 _ _ c.public_key.ensures c.in_default.ensures)
 
 pub floor-requires : goal.floor-requires
 floor-requires c =
     let s = c.requires.0 in
-    (s, (key-found-at _ s.fits.key_slots _ _ (sym c.k-1.given.1 ∙ c.find_key.ensures)).below)
+    (s, (key-found-at _ s.fits.key_slots _ _ c.in-At.ensures).below)
 
 pub returns : goal.returns
 returns c =
     ap₂ ltb c.generation.ensures c.floor.ensures
-    ∙ sym (revoked-by c.requires.0 _ _ c.public_key.ensures _ (sym c.k-1.given.1 ∙ c.find_key.ensures))
+    ∙ sym (revoked-by c.requires.0 _ _ c.public_key.ensures _ c.in-At.ensures)

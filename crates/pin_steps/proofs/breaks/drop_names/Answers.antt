@@ -1,5 +1,4 @@
 use mathlib.Core.Path.{sym, ◌∙◌}
-use mathlib.Core.Logic.{⊎_elim}
 use Prim.Native.Nat.{◌-◌, ◌≤◌}
 use native.Mathlib.Omega.{arith}
 use borrow.Author.Rules.{rules}
@@ -9,6 +8,7 @@ use Rattle.pin_records.proofs.HeldSlots.{holds-stored}
 use Rattle.pin_records.proofs.DroppedNames.{dropped, drop-end}
 use Rattle.pin_steps.proofs.DroppedNames.{on_key, key-used, name-stays, name-goes}
 use Rattle.pin_steps.proofs.breaks.drop_names.Goals as goal
+use Rattle.pin_steps.proofs.breaks.drop_names.Goals.{then-refers_to, else-refers_to}
 
 pub loop-n-init : goal.loop-n-init
 loop-n-init c = (omega arith, c.requires.0)
@@ -28,10 +28,10 @@ clear_name-requires c = (holds-stored c.loop-n.invariant.1, c.loop-n-test.true)
 pub loop-n-preserved : goal.loop-n-preserved
 loop-n-preserved c =
     let l = c.loop-n in
-    ⊎_elim
-    (λ w. (omega arith, name-goes (decode c.args.area.now) c.args.k.0 l.n l.invariant.1 w.5 (sym c.refers_to.ensures ∙ w.0.taken) w.2.ensures))
-    (λ w. (omega arith, name-stays (decode c.args.area.now) c.args.k.0 l.n l.invariant.1 w.1 (sym c.refers_to.ensures ∙ w.0.left)))
-    c.if-refers_to.branch
+    elim c.if-refers_to.branch [
+      then-refers_to w ↦ (omega arith, name-goes (decode c.args.area.now) c.args.k.0 l.n l.invariant.1 w.area-is (sym c.refers_to.ensures ∙ w.if-refers_to.true) w.clear_name.ensures)
+    | else-refers_to w ↦ (omega arith, name-stays (decode c.args.area.now) c.args.k.0 l.n l.invariant.1 w.area-is (sym c.refers_to.ensures ∙ w.if-refers_to.false))
+    ]
 
 pub shape_of-area : goal.shape_of-area
 shape_of-area c = c.loop-n.invariant.1.long ∙ sym c.requires.0.long

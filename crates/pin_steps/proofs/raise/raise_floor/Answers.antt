@@ -12,25 +12,25 @@ find_key-requires c =
 
 pub returns-in_default : goal.returns-in_default
 returns-in_default c =
-    raise-absent _ c.requires.0 (tack-key-absent _ c.public_key.ensures c.requires.0 (sym c.enum_told-1.given.1 ∙ c.find_key.ensures))
+    raise-absent _ c.requires.0 (tack-key-absent _ c.public_key.ensures c.requires.0 c.in_default.ensures)
 
 pub floor-requires : goal.floor-requires
 floor-requires c =
-    (c.requires.0, (tack-key-at _ c.public_key.ensures c.requires.0 _ (sym c.k-1.given.1 ∙ c.find_key.ensures)).below)
+    (c.requires.0, (tack-key-at _ c.public_key.ensures c.requires.0 _ c.in-At.ensures).below)
 
 pub store_floor-requires : goal.store_floor-requires
 store_floor-requires c =
-    let x = tack-key-at _ c.public_key.ensures c.requires.0 _ (sym c.k-1.given.1 ∙ c.find_key.ensures) in
+    let x = tack-key-at _ c.public_key.ensures c.requires.0 _ c.in-At.ensures in
     (c.requires.0, x.below, x.in_use)
 
 pub returns-then-floor-least : goal.returns-then-floor-least
 returns-then-floor-least c =
     raise-stored _ c.requires.0
-    (tack-key-at _ c.public_key.ensures c.requires.0 _ (sym c.k-1.given.1 ∙ c.find_key.ensures))
+    (tack-key-at _ c.public_key.ensures c.requires.0 _ c.in-At.ensures)
     c.min_generation-least.ensures (omega (arith, c.if-floor-least.true, c.floor.ensures)) c.store_floor.ensures
 
 pub returns-else-floor-least : goal.returns-else-floor-least
 returns-else-floor-least c =
     raise-kept _ c.requires.0
-    (tack-key-at _ c.public_key.ensures c.requires.0 _ (sym c.k-1.given.1 ∙ c.find_key.ensures))
+    (tack-key-at _ c.public_key.ensures c.requires.0 _ c.in-At.ensures)
     (omega (arith, c.if-floor-least.false, c.floor.ensures, c.min_generation-least.ensures))

@@ -10,9 +10,9 @@ use Rattle.pin_steps.proofs.verdict.is_active.Goals as goal
 
 pub returns-in_default : goal.returns-in_default
 returns-in_default c =
-    active-absent c.args.clock.0 (get_or (decode c.args.area.now).names c.args.n.0 none) (sym c.enum_told-1.given.1 ∙ c.end.ensures)
+    active-absent c.args.clock.0 (get_or (decode c.args.area.now).names c.args.n.0 none) c.in_default.ensures
 
 pub returns : goal.returns
 returns c =
     ap₂ ltb c.count.ensures c.count-2.ensures
-    ∙ active-at c.args.clock.0 (get_or (decode c.args.area.now).names c.args.n.0 none) _ (sym c.end-1.given.1 ∙ c.end.ensures)
+    ∙ active-at c.args.clock.0 (get_or (decode c.args.area.now).names c.args.n.0 none) _ c.in-At.ensures

@@ -13,27 +13,27 @@ use Rattle.pin_steps.proofs.verdict.verdict_for.Goals as goal
 pub returns-in_default : goal.returns-in_default
 returns-in_default c =
     verdict-absent c.requires.0 c.args.name.now c.args.clock.0 c.args.tack.now
-    (name-absent _ c.requires.0.fits.name_slots _ (sym c.enum_told-1.given.1 ∙ c.find_name.ensures))
+    (name-absent _ c.requires.0.fits.name_slots _ c.in_default.ensures)
 
 pub is_active-requires : goal.is_active-requires
 is_active-requires c =
-    (c.requires.0, (name-found-at _ c.requires.0.fits.name_slots _ _ (sym c.n-1.given.1 ∙ c.find_name.ensures)).below)
+    (c.requires.0, (name-found-at _ c.requires.0.fits.name_slots _ _ c.in-At.ensures).below)
 
 pub returns-then-not-is_active : goal.returns-then-not-is_active
 returns-then-not-is_active c =
     verdict-inactive c.requires.0 c.args.name.now c.args.clock.0 c.args.tack.now c.requires.2
-    (name-found-at _ c.requires.0.fits.name_slots _ _ (sym c.n-1.given.1 ∙ c.find_name.ensures))
+    (name-found-at _ c.requires.0.fits.name_slots _ _ c.in-At.ensures)
     (sym c.is_active.ensures ∙ c.if-not-is_active.true)
 
 pub returns-then-tack-eq0 : goal.returns-then-tack-eq0
 returns-then-tack-eq0 c =
     verdict-empty c.requires.0 c.args.name.now c.args.clock.0 c.args.tack.now c.requires.2
-    (name-found-at _ c.requires.0.fits.name_slots _ _ (sym c.n-1.given.1 ∙ c.find_name.ensures))
+    (name-found-at _ c.requires.0.fits.name_slots _ _ c.in-At.ensures)
     (sym c.is_active.ensures ∙ c.if-not-is_active.false) c.if-tack-eq0.true
 
 pub key_of-requires : goal.key_of-requires
 key_of-requires c =
-    let x = name-found-at _ c.requires.0.fits.name_slots _ _ (sym c.n-1.given.1 ∙ c.find_name.ensures) in
+    let x = name-found-at _ c.requires.0.fits.name_slots _ _ c.in-At.ensures in
     (c.requires.0, x.below, x.in_use)
 
 pub public_key-requires : goal.public_key-requires
@@ -46,7 +46,7 @@ holds_key-requires c =
 
 pub returns-then-holds_key : goal.returns-then-holds_key
 returns-then-holds_key c =
-    let x = name-found-at _ c.requires.0.fits.name_slots _ _ (sym c.n-1.given.1 ∙ c.find_name.ensures) in
+    let x = name-found-at _ c.requires.0.fits.name_slots _ _ c.in-At.ensures in
     let t = pinned-test c.requires.0 _ x.what x.there c.args.tack.now c.public_key.ensures c.key_of.ensures.1 c.holds_key.ensures in
     verdict-shown c.requires.0 c.args.name.now c.args.clock.0 c.args.tack.now c.requires.2 x
     (sym c.is_active.ensures ∙ c.if-not-is_active.false) true
@@ -54,7 +54,7 @@ returns-then-holds_key c =
 
 pub returns : goal.returns
 returns c =
-    let x = name-found-at _ c.requires.0.fits.name_slots _ _ (sym c.n-1.given.1 ∙ c.find_name.ensures) in
+    let x = name-found-at _ c.requires.0.fits.name_slots _ _ c.in-At.ensures in
     let t = pinned-test c.requires.0 _ x.what x.there c.args.tack.now c.public_key.ensures c.key_of.ensures.1 c.holds_key.ensures in
     verdict-shown c.requires.0 c.args.name.now c.args.clock.0 c.args.tack.now c.requires.2 x
     (sym c.is_active.ensures ∙ c.if-not-is_active.false) false
