@@ -2,4 +2,3 @@ pub mod Learnt
 pub mod Steps
 pub mod ByParts
 pub mod Passing
-pub mod Refusing

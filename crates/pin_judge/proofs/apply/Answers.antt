@@ -1,6 +1,5 @@
 -- One step after the other.
 use mathlib.Core.Bool.{◌||◌}
-use borrow.Author.Rules.{rules}
 use Rattle.pin_model.specs.Layout.{decode}
 use Rattle.pin_records.proofs.HeldSlots.{holds-stored}
 use Rattle.pin_judge.proofs.Steps.{still_one, applied}

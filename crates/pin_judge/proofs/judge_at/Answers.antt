@@ -1,13 +1,7 @@
 -- Each refusal is the first that applies; where none does, the steps give the answer.
-use mathlib.Core.Path.{sym, ap, ◌∙◌}
-use borrow.Author.Rules.{rules}
-use Rattle.pin_answers.specs.Numbers.{checked_number}
-use Rattle.pin_judge.proofs.Passing.{passed-in-order, passed-read, tack-came, refused-so, judged-so}
+use mathlib.Core.Path.{sym}
+use Rattle.pin_judge.proofs.Passing.{tack-came, refused-so, judged-so}
 use Rattle.pin_judge.proofs.judge_at.Goals as goal
-
--- The steps ask that refusal 14 has passed. This comes before the other needs, so that a program that lacks it is refused here first.
-pub apply_shown-requires : goal.apply_shown-requires
-apply_shown-requires c = (search passed-in-order, search passed-read)
 
 pub refuse-requires : goal.refuse-requires
 refuse-requires c =

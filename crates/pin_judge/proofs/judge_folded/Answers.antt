@@ -1,13 +1,7 @@
 -- With an extension or without one.
 use mathlib.Core.Path.{◌∙◌}
-use borrow.Author.Rules.{rules}
 use Rattle.pin_judge.proofs.ByParts.{absent-answer, absent-area}
 use Rattle.pin_judge.proofs.judge_folded.Goals as goal
-
-pub returns-then-extension_came : goal.returns-then-extension_came
-returns-then-extension_came c =
-    let w = c.judge_shown.ensures in
-    rw c.if-extension_came.true w
 
 pub returns : goal.returns
 returns c =

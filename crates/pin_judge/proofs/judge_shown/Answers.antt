@@ -1,7 +1,6 @@
 -- 12, 13, and the rest at the clock's minutes.
 use mathlib.Core.Path.{sym, ◌∙◌}
 use borrow.Author.Rules.{rules}
-use borrow.Author.Tests.{not-true, not-false}
 use Rattle.pin_refusals.proofs.Clocks.{above, within}
 use Rattle.pin_judge.proofs.Passing.{refused-name, refused-late, sound-admitted}
 use Rattle.pin_judge.proofs.judge_shown.Goals as goal
@@ -25,7 +24,7 @@ pub judge_at-requires : goal.judge_at-requires
 judge_at-requires c =
     let in_time = within _ _ c.in-At.ensures in (
       c.requires.0,
-      sound-admitted c.args.area.now c.args.name.now _ (λ i. (c.slice_known-1.given i).fits) c.requires.0 c.requires.1
+      sound-admitted c.args.area.now c.args.name.now _ (λ i. search rules) c.requires.0 c.requires.1
           (sym c.well_formed-2.ensures ∙ c.if-not-well_formed.false) in_time.in_limit,
     )
 

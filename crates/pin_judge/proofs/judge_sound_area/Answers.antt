@@ -5,7 +5,6 @@ use Prim.Native.Nat.{ℕ}
 use native.Mathlib.Omega.{arith}
 use lib.ListN.{length-take}
 use lib.Seq.{length-take-le}
-use borrow.Author.Rules.{rules}
 use Rattle.host_name.proofs.Folded.{front, room}
 use Rattle.pin_model.specs.Sound.{sound}
 use Rattle.pin_model.specs.Connection.{connection, named}
@@ -24,17 +23,11 @@ returns-then-is_two c =
     let refused = refused-edition _ _ c.requires (sym c.is_two.ensures ∙ c.if-is_two.true) in
     record { answer = refused.0; area = refused.1; sound = c.requires }
 
-pub slice_bounds-folded-end : goal.slice_bounds-folded-end
-slice_bounds-folded-end c = sym (room c.args.name.now c.fold-n.ensures.length c.fold-n.ensures.bytes)
-
 pub slice_bounds-judge_folded-end : goal.slice_bounds-judge_folded-end
 slice_bounds-judge_folded-end c =
     let s = c.args.name.now in
     let wrote = c.fold-n.ensures in
     sym (length-take-le _ _ (omega (arith, room s wrote.length wrote.bytes, wrote.length, length-take 254 s)))
-
-pub judge_folded-requires : goal.judge_folded-requires
-judge_folded-requires c = (c.requires, sym c.is_two.ensures ∙ c.if-is_two.false)
 
 pub returns : goal.returns
 returns c =

@@ -1,24 +1,13 @@
 -- Where no tack is shown nothing changes; else the steps follow each other.
 use mathlib.Core.Path.{sym, ap, ◌∙◌}
-use mathlib.Core.Bool.{true, false, ◌||◌}
-use borrow.Author.Rules.{rules}
+use mathlib.Core.Bool.{true, false}
 use Rattle.pin_model.specs.Layout.{decode}
 use Rattle.pin_model.specs.Judge.{raise, extend}
 use Rattle.pin_records.proofs.HeldSlots.{holds-decode, holds-stored}
 use Rattle.pin_model.proofs.Disabled.{not_extended}
-use Rattle.pin_model.proofs.TackShown.{not-shown, shown, whole_length}
-use Rattle.pin_judge.proofs.Steps.{ready-to-extend, nothing-shown, ready-to-create, created}
+use Rattle.pin_model.proofs.TackShown.{shown, whole_length}
+use Rattle.pin_judge.proofs.Steps.{ready-to-extend, ready-to-create, created}
 use Rattle.pin_judge.proofs.learn.Goals as goal
-
-pub returns-then-tack-eq0 : goal.returns-then-tack-eq0
-returns-then-tack-eq0 c =
-    let a = c.args in
-    nothing-shown a.enabled (a.enabled || a.learn_disabled) a.name.now a.clock.0 a.tack.now (decode a.area.now)
-    (not-shown a.tack.now c.if-tack-eq0.true) c.requires.0.admitted.stored
-
-pub raise_floor-requires : goal.raise_floor-requires
-raise_floor-requires c =
-    (c.requires.0.admitted.stored, whole_length _ c.requires.1 c.if-tack-eq0.false)
 
 pub extend_pin-requires : goal.extend_pin-requires
 extend_pin-requires c =

@@ -1,16 +1,12 @@
 -- 10 and 11, 27; else the name that is handed on is the folded one, cut at 254 bytes.
-use mathlib.Core.Path.{sym, ap, ◌∙◌}
+use mathlib.Core.Path.{sym, ◌∙◌}
 use mathlib.Core.List.{[]}
 use native.Mathlib.Omega.{arith}
 use lib.ListN.{length-take}
 use lib.Seq.{length-take-le}
-use borrow.Author.Rules.{rules}
-use borrow.Author.Tests.{not-true, not-false}
 use Rattle.host_name.proofs.Folded.{front, room}
 use Rattle.pin_model.specs.Connection.{connection, folded_connection}
-use Rattle.pin_model.proofs.Rules.{rules-of}
 use Rattle.pin_model.proofs.Refusals.{area-facts}
-use Rattle.pin_answers.specs.Numbers.{checked_number}
 use Rattle.pin_judge_two.proofs.PassingTwo.{refused-area, refused-edition, as-it-came, uncut}
 use Rattle.pin_judge_two.proofs.judge.Goals as goal
 
@@ -22,10 +18,6 @@ returns-in-Refused c =
     let w = as-it-came it c.args.area.now (refused-area (folded_connection it) c.args.area.now _ number) in
     record { answer = w.0; area = w.1 }
 
-pub is_two-requires : goal.is_two-requires
-is_two-requires c =
-    (rules-of _ (area-facts c.args.area.now [] (sym c.in_default.ensures)).area_sound).whole
-
 pub returns-then-not-is_two : goal.returns-then-not-is_two
 returns-then-not-is_two c =
     let it = connection c.args.clock c.args.name.now c.args.extension_came c.args.extension.now
@@ -36,18 +28,11 @@ returns-then-not-is_two c =
     (sym c.is_two.ensures ∙ c.if-not-is_two.true)) in
     record { answer = w.0; area = w.1 }
 
-pub slice_bounds-folded-end : goal.slice_bounds-folded-end
-slice_bounds-folded-end c = sym (room c.args.name.now c.fold-n.ensures.length c.fold-n.ensures.bytes)
-
 pub slice_bounds-judge_folded-end : goal.slice_bounds-judge_folded-end
 slice_bounds-judge_folded-end c =
     let s = c.args.name.now in
     let wrote = c.fold-n.ensures in
     sym (length-take-le _ _ (omega (arith, room s wrote.length wrote.bytes, wrote.length, length-take 254 s)))
-
-pub judge_folded-requires : goal.judge_folded-requires
-judge_folded-requires c =
-    ((area-facts c.args.area.now [] (sym c.in_default.ensures)).area_sound, sym c.is_two.ensures ∙ c.if-not-is_two.false)
 
 pub returns : goal.returns
 returns c =

@@ -1,6 +1,5 @@
 -- 14 and 15; where no extension came the parts are empty; 16; or its parts.
-use mathlib.Core.Path.{refl, sym, ◌∙◌}
-use borrow.Author.Rules.{rules}
+use mathlib.Core.Path.{sym, ◌∙◌}
 use borrow.Author.Tests.{not-true, not-false}
 use Rattle.tack_extension_two.specs.ExtensionTwo.{parts_two, parse_two}
 use Rattle.pin_model.specs.Connection.{connection}
@@ -24,12 +23,6 @@ returns-then-not-checks c =
     let in_time = in-time c.count.ensures latest c.if-count.false in
     let w = refused-unfinished it c.args.area.now c.requires in_time (not-true _ c.if-not-checks.true) in
     record { answer = w.0; area = w.1 }
-
-pub judge_parts-requires : goal.judge_parts-requires
-judge_parts-requires c =
-    let latest = c.count-2.ensures ∙ c.latest.ensures in
-    let in_time = in-time c.count.ensures latest c.if-count.false in
-    (in_order c.requires in_time, record { of_first = refl; of_second = refl })
 
 pub returns-then-not-extension_came : goal.returns-then-not-extension_came
 returns-then-not-extension_came c =

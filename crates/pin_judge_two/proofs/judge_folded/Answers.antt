@@ -1,8 +1,7 @@
 -- 12, 13, and the rest at the clock's minutes.
 use mathlib.Core.Path.{sym, ◌∙◌}
-use borrow.Author.Rules.{rules}
-use borrow.Author.Tests.{not-true, not-false}
 use Rattle.pin_model.specs.Connection.{connection}
+use borrow.Author.Rules.{rules}
 use Rattle.pin_refusals.proofs.Clocks.{above, within}
 use Rattle.pin_judge_two.proofs.PassingTwo.{admitted, refused-name, refused-limit}
 use Rattle.pin_judge_two.proofs.judge_folded.Goals as goal
@@ -25,7 +24,7 @@ returns-in_default c =
 pub judge_at-requires : goal.judge_at-requires
 judge_at-requires c =
     let in_time = within _ _ c.in-At.ensures in
-    admitted c.args.area.now c.args.name.now _ (λ i. (c.slice_known-1.given i).fits) c.requires.0 c.requires.1
+    admitted c.args.area.now c.args.name.now _ (λ i. search rules) c.requires.0 c.requires.1
     (sym c.well_formed-2.ensures ∙ c.if-not-well_formed.false) in_time.in_limit
 
 pub returns : goal.returns

@@ -1,6 +1,5 @@
 -- Four fields, each behind the one before it, are the line.
 use native.Mathlib.Omega.{arith}
-use borrow.Author.Rules.{rules}
 use Rattle.night_report.proofs.Lines.{Short, short, line-written}
 use Rattle.night_report.proofs.text.put_line.Goals as goal
 use Rattle.night_report.proofs.text.put_line.Goals.{After-flag-full}

@@ -1,6 +1,5 @@
 -- The word, and the number behind it.
 use native.Mathlib.Omega.{arith}
-use borrow.Author.Rules.{rules}
 use Rattle.night_report.proofs.Lines.{field-u64, total-written}
 use Rattle.night_report.proofs.text.put_total.Goals as goal
 

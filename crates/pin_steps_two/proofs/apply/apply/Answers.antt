@@ -1,5 +1,4 @@
 -- The floors and latest, then the rest on the table that they leave.
-use borrow.Author.Rules.{rules}
 use Rattle.pin_model.specs.Layout.{decode}
 use Rattle.pin_records.proofs.HeldSlots.{holds-stored}
 use Rattle.pin_steps_two.specs.SettledTwo.{SettledTwo}

@@ -1,7 +1,6 @@
 -- Contradicted; or the verdict by whether a record is active, then the removals and what is learned.
 use mathlib.Core.Path.{sym, ap, ◌∙◌}
 use mathlib.Core.Bool.{true, false}
-use borrow.Author.Rules.{rules}
 use Rattle.pin_model.specs.Layout.{decode}
 use Rattle.pin_model.specs.JudgeTwo.{no_room_each}
 use Rattle.pin_records.proofs.HeldSlots.{holds-decode, holds-stored}

@@ -1,5 +1,4 @@
 -- The second tack meets the table that the first leaves.
-use borrow.Author.Rules.{rules}
 use Rattle.pin_model.specs.Layout.{decode}
 use Rattle.pin_records.proofs.HeldSlots.{holds-stored}
 use Rattle.pin_steps_two.proofs.OwnPins.{learned-settled, learned-both}

@@ -1,24 +1,9 @@
 -- No tack, a disabled one, one whose record is found, one that has none.
-use mathlib.Core.Path.{sym, ◌∙◌}
-use borrow.Author.Rules.{rules}
-use borrow.Author.Tests.{not-true, not-false}
 use Rattle.pin_model.specs.Layout.{decode}
 use Rattle.pin_steps.proofs.Tacks.{key-length}
 use Rattle.pin_model.proofs.TackShown.{whole_length}
-use Rattle.pin_steps_two.proofs.OwnPins.{pin_at, pin-absent, clock-limit, own-begun, own-extended, learned-none, learned-disabled, learned-extended, learned-made}
+use Rattle.pin_steps_two.proofs.OwnPins.{pin_at, pin-absent, clock-limit, own-begun, own-extended, learned-extended, learned-made}
 use Rattle.pin_steps_two.proofs.learn.learn_own.Goals as goal
-
-pub returns-then-tack-eq0 : goal.returns-then-tack-eq0
-returns-then-tack-eq0 c =
-    learned-none c.args.name.now c.args.clock.0 (decode c.args.area.now) _ c.args.enabled c.args.tack.now c.if-tack-eq0.true c.requires.0
-
-pub returns-then-not-enabled : goal.returns-then-not-enabled
-returns-then-not-enabled c =
-    learned-disabled c.args.name.now c.args.clock.0 (decode c.args.area.now) _ c.args.enabled (c.if-not-enabled.true) c.args.tack.now c.requires.0
-
-pub public_key-requires : goal.public_key-requires
-public_key-requires c =
-    whole_length _ c.requires.2 c.if-tack-eq0.false
 
 pub find_pin-requires : goal.find_pin-requires
 find_pin-requires c =

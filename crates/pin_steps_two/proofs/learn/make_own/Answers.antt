@@ -1,7 +1,5 @@
 -- Two records of the name, no free name slot, no room for the key, or the new record.
 use mathlib.Core.Path.{sym, ◌∙◌}
-use borrow.Author.Rules.{rules}
-use borrow.Author.Tests.{not-true, not-false}
 use Rattle.pin_model.specs.Table.{name_is}
 use Rattle.pin_records.proofs.Found.{name-free-at, names-full}
 use Rattle.pin_records.proofs.SecondSlots.{fewer-than-two, two-there}

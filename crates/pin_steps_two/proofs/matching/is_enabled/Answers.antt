@@ -2,7 +2,6 @@
 use mathlib.Core.Path.{sym, ◌∙◌}
 use mathlib.Core.Option.{none}
 use lib.ListN.{get_or}
-use borrow.Author.Rules.{rules}
 use Rattle.tack_extension_two.specs.ExtensionTwo.{parts_two, enables_first, enables_second}
 use Rattle.pin_model.specs.Layout.{decode}
 use Rattle.pin_model.specs.Connection.{shown_in}

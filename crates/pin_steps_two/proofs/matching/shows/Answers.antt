@@ -5,16 +5,8 @@ use lib.ListN.{get_or}
 use Rattle.pin_model.specs.Layout.{decode}
 use Rattle.pin_steps.proofs.Tacks.{key-length}
 use Rattle.pin_model.proofs.TackShown.{whole_length}
-use Rattle.pin_steps_two.proofs.ShownTacks.{shows-none, shows-whole}
+use Rattle.pin_steps_two.proofs.ShownTacks.{shows-whole}
 use Rattle.pin_steps_two.proofs.matching.shows.Goals as goal
-
-pub returns-then-tack-eq0 : goal.returns-then-tack-eq0
-returns-then-tack-eq0 c =
-    shows-none c.args.tack.now c.if-tack-eq0.true (get_or (decode c.args.area.now).names c.args.n.0 none)
-
-pub public_key-requires : goal.public_key-requires
-public_key-requires c =
-    whole_length _ c.requires.3 c.if-tack-eq0.false
 
 pub pinned_to-requires : goal.pinned_to-requires
 pinned_to-requires c =

@@ -1,5 +1,4 @@
 -- One tack after the other, then latest.
-use borrow.Author.Rules.{rules}
 use Rattle.pin_model.specs.Layout.{decode}
 use Rattle.pin_records.proofs.HeldSlots.{holds-stored}
 use Rattle.pin_steps_two.proofs.ShownTacks.{raised_both}

@@ -1,18 +1,12 @@
 use mathlib.Core.Path.{sym, ◌∙◌}
-use Prim.Native.Nat.{◌-◌, ◌≤◌}
 use native.Mathlib.Omega.{arith}
-use borrow.Author.Rules.{rules}
 use Rattle.pin_model.specs.Layout.{decode}
 use Rattle.pin_model.specs.JudgeTwo.{is_removed}
-use Rattle.pin_records.specs.Holds.{Holds}
 use Rattle.pin_records.proofs.HeldSlots.{holds-stored}
-use Rattle.pin_records.proofs.DroppedNames.{dropped, drop-stays, drop-goes, drop-end}
+use Rattle.pin_records.proofs.DroppedNames.{drop-stays, drop-goes, drop-end}
 use Rattle.pin_refusals_two.specs.Parts.{tacks_by}
 use Rattle.pin_steps_two.proofs.removal.drop_names.Goals as goal
 use Rattle.pin_steps_two.proofs.removal.drop_names.Goals.{then-is_removed, else-is_removed}
-
-pub loop-n-init : goal.loop-n-init
-loop-n-init c = (omega arith, c.requires.0)
 
 pub is_removed-requires : goal.is_removed-requires
 is_removed-requires c = (holds-stored c.loop-n.invariant.1, c.loop-n-test.true, c.requires.1)
@@ -28,9 +22,6 @@ loop-n-preserved c =
       | then-is_removed w ↦ (omega arith, drop-goes gone (decode c.args.area.now) l.n l.invariant.1 w.area-is (sym c.is_removed.ensures ∙ w.if-is_removed.true) w.clear_name.ensures)
       | else-is_removed w ↦ (omega arith, drop-stays gone (decode c.args.area.now) l.n l.invariant.1 w.area-is (sym c.is_removed.ensures ∙ w.if-is_removed.false))
     ]
-
-pub shape_of-area : goal.shape_of-area
-shape_of-area c = c.loop-n.invariant.1.long ∙ sym c.requires.0.long
 
 pub returns : goal.returns
 returns c =

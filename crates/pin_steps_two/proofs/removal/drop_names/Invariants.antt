@@ -1,14 +1,9 @@
 -- The invariant: of the first n slots the records that are to go are gone.
-use mathlib.Core.Path.{sym, ◌∙◌}
-use mathlib.Core.Logic.{⊎_elim}
 use Prim.Native.Nat.{◌-◌, ◌≤◌}
-use native.Mathlib.Omega.{arith}
-use borrow.Author.Rules.{rules}
 use Rattle.pin_model.specs.Layout.{decode}
 use Rattle.pin_model.specs.JudgeTwo.{is_removed}
 use Rattle.pin_records.specs.Holds.{Holds}
-use Rattle.pin_records.proofs.HeldSlots.{holds-stored}
-use Rattle.pin_records.proofs.DroppedNames.{dropped, drop-stays, drop-goes, drop-end}
+use Rattle.pin_records.proofs.DroppedNames.{dropped}
 use Rattle.pin_refusals_two.specs.Parts.{tacks_by}
 use Rattle.pin_steps_two.proofs.removal.drop_names.Given as goal
 

@@ -1,5 +1,4 @@
 -- The records, then the keys that no name is left on.
-use borrow.Author.Rules.{rules}
 use Rattle.pin_model.specs.Layout.{decode}
 use Rattle.pin_model.specs.JudgeTwo.{is_removed}
 use Rattle.pin_records.proofs.HeldSlots.{holds-stored}

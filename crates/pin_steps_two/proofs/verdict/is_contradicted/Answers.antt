@@ -1,21 +1,13 @@
-use mathlib.Core.Path.{◌≡◌, sym, ◌∙◌}
-use mathlib.Core.Bool.{false, not, ◌&&◌}
-use mathlib.Core.Option.{none}
-use Prim.Native.Nat.{ℕ, ◌-◌, ◌≤◌, ◌<◌}
+use mathlib.Core.Path.{sym, ◌∙◌}
+use mathlib.Core.Bool.{not, ◌&&◌}
 use native.Mathlib.Omega.{arith}
-use lib.ListN.{get_or}
-use borrow.Author.Rules.{rules}
-use borrow.Author.Count.{below_more, below_none}
+use borrow.Author.Count.{below_more}
 use Rattle.pin_model.specs.Layout.{decode}
-use Rattle.pin_model.specs.Fits.{holds}
 use Rattle.pin_model.specs.Judge.{active_of}
 use Rattle.pin_refusals_two.specs.Parts.{both_tacks}
 use Rattle.pin_steps_two.specs.Shown.{shown_for}
 use Rattle.pin_model.proofs.Places.{any_at, any_none}
 use Rattle.pin_steps_two.proofs.verdict.is_contradicted.Goals as goal
-
-pub loop-n-init : goal.loop-n-init
-loop-n-init c = (omega arith, below_none _)
 
 pub returns-then-contradicts : goal.returns-then-contradicts
 returns-then-contradicts c =

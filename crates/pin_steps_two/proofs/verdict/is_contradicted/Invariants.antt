@@ -1,18 +1,14 @@
 -- The loop's invariant: none of the first n slots contradicts.
-use mathlib.Core.Path.{◌≡◌, sym, ◌∙◌}
+use mathlib.Core.Path.{◌≡◌}
 use mathlib.Core.Bool.{false, not, ◌&&◌}
 use mathlib.Core.Option.{none}
 use Prim.Native.Nat.{ℕ, ◌-◌, ◌≤◌, ◌<◌}
-use native.Mathlib.Omega.{arith}
 use lib.ListN.{get_or}
-use borrow.Author.Rules.{rules}
-use borrow.Author.Count.{below_more, below_none}
 use Rattle.pin_model.specs.Layout.{decode}
 use Rattle.pin_model.specs.Fits.{holds}
 use Rattle.pin_model.specs.Judge.{active_of}
 use Rattle.pin_refusals_two.specs.Parts.{both_tacks}
 use Rattle.pin_steps_two.specs.Shown.{shown_for}
-use Rattle.pin_model.proofs.Places.{any_at, any_none}
 use Rattle.pin_steps_two.proofs.verdict.is_contradicted.Given as goal
 
 abbrev pub invariant-loop-n : goal.invariant-loop-n

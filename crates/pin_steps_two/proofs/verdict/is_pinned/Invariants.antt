@@ -1,16 +1,12 @@
 -- The loop's invariant: none of the first n slots has an active record of the name.
-use mathlib.Core.Path.{◌≡◌, sym, ◌∙◌}
+use mathlib.Core.Path.{◌≡◌}
 use mathlib.Core.Bool.{false}
 use mathlib.Core.Option.{none}
 use Prim.Native.Nat.{ℕ, ◌-◌, ◌≤◌, ◌<◌}
-use native.Mathlib.Omega.{arith}
 use lib.ListN.{get_or}
-use borrow.Author.Rules.{rules}
-use borrow.Author.Count.{below_more, below_none}
 use Rattle.pin_model.specs.Layout.{decode}
 use Rattle.pin_model.specs.Fits.{holds}
 use Rattle.pin_model.specs.Judge.{active_of}
-use Rattle.pin_model.proofs.Places.{any_at, any_none}
 use Rattle.pin_steps_two.proofs.verdict.is_pinned.Given as goal
 
 abbrev pub invariant-loop-n : goal.invariant-loop-n
