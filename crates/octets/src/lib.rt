@@ -1,5 +1,6 @@
 // Bytes at a place of a slice: read, written and compared. Each function that writes gives the place behind what it wrote.
 #![tactic(auto)]
+
 ghost use Rattle.std.specs.Prelude.{◌≡◌, ◌+◌, ◌≤◌, ◌<◌, max, length, replicate};
 ghost use Rattle.octets.specs.Octets.{part, put, big_endian, number, all_zero, same};
 ghost use Rattle.octets.specs.Words.{word};

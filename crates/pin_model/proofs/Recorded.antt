@@ -1,5 +1,5 @@
 -- With the yes a tack's name has a record after the call, or there was no room (document 02, Q-7).
-use mathlib.Core.Path.{◌≡◌, refl, sym, ◌∙◌, ap, ap₂}
+use mathlib.Core.Path.{◌≡◌, refl, ◌∙◌, ap, ap₂}
 use mathlib.Core.Bool.{Bool, true, false, cond, not, ◌&&◌, ◌||◌, true≢false, or-true}
 use mathlib.Core.List.{List, [], ◌∷◌}
 use mathlib.Core.Option.{Option, none, some}
@@ -9,10 +9,10 @@ use Rattle.octets.specs.Octets.{any}
 use Rattle.octets.proofs.Tests.{and_left}
 use Rattle.octets.proofs.Equal.{same_refl}
 use Rattle.tack_extension.specs.Tack.{public_key}
-use Rattle.pin_model.specs.Slots.{used, freed}
+use Rattle.pin_model.specs.Slots.{used}
 use Rattle.pin_model.specs.Table.{clock_limit, NameRecord, Table, name_is, pinned_to, active, name_recorded, without}
 use Rattle.pin_model.specs.Layout.{decode}
-use Rattle.pin_model.specs.Connection.{Connection, tack_shown, enabled, may_record, broken_keys, listed}
+use Rattle.pin_model.specs.Connection.{Connection, tack_shown, enabled, may_record, broken_keys}
 use Rattle.pin_model.specs.Refusals.{is_none}
 use Rattle.pin_model.specs.Judge.{raise, extend, wants_record, room_for, no_room_for, new_name, names_with, with_record, create, learn, no_room_in, judged, no_room}
 use Rattle.pin_model.specs.Calls.{judge, is_verdict, refusal, answer, unrefused, answer_by, area_after}

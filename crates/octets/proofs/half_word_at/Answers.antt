@@ -1,4 +1,3 @@
-use borrow.Author.Rules.{rules}
 use Rattle.octets.proofs.Words.{word-four}
 use Rattle.octets.proofs.half_word_at.Goals as goal
 

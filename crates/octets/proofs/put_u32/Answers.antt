@@ -2,7 +2,6 @@
 use mathlib.Core.Path.{refl, sym, ap, ◌∙◌}
 use native.Mathlib.Omega.{arith}
 use lib.ListN.{length-set}
-use borrow.Author.Rules.{rules}
 use Rattle.octets.specs.Octets.{put}
 use Rattle.octets.proofs.Parts.{store-four}
 use Rattle.octets.proofs.Numbers.{big_endian-four}

@@ -1,10 +1,7 @@
-use mathlib.Core.Path.{◌≡◌, refl, sym}
-use Prim.Native.Nat.{◌-◌, ◌≤◌}
+use mathlib.Core.Path.{refl, sym}
 use native.Mathlib.Omega.{arith}
 use native.Mathlib.Nat.{le_antisymm}
-use lib.ListN.{length, replicate, length-set}
-use borrow.Author.Rules.{rules}
-use Rattle.octets.specs.Octets.{put}
+use lib.ListN.{length-set}
 use Rattle.octets.proofs.Parts.{put-none, zero-step}
 use Rattle.octets.proofs.put_zeros.Goals as goal
 

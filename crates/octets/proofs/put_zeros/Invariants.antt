@@ -1,12 +1,8 @@
 -- The loop's invariant: i zeros are put in, and the length is as it was.
-use mathlib.Core.Path.{◌≡◌, refl, sym}
+use mathlib.Core.Path.{◌≡◌}
 use Prim.Native.Nat.{◌-◌, ◌≤◌}
-use native.Mathlib.Omega.{arith}
-use native.Mathlib.Nat.{le_antisymm}
-use lib.ListN.{length, replicate, length-set}
-use borrow.Author.Rules.{rules}
+use lib.ListN.{length, replicate}
 use Rattle.octets.specs.Octets.{put}
-use Rattle.octets.proofs.Parts.{put-none, zero-step}
 use Rattle.octets.proofs.put_zeros.Given as goal
 
 abbrev pub invariant-loop-i : goal.invariant-loop-i

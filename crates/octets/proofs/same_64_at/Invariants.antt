@@ -1,12 +1,7 @@
 -- The loop's invariant: the bytes from i on agree, and i is a whole number of words.
-use mathlib.Core.Path.{◌≡◌, sym}
-use mathlib.Core.List.{List}
-use Prim.Native.Nat.{ℕ, ◌+◌, ◌-◌, ◌%◌, ◌≤◌, ◌<◌}
-use native.Mathlib.Omega.{arith}
+use mathlib.Core.Path.{◌≡◌}
+use Prim.Native.Nat.{ℕ, ◌+◌, ◌%◌, ◌≤◌, ◌<◌}
 use lib.ListN.{get_or}
-use borrow.Author.Rules.{rules}
-use Rattle.octets.proofs.Equal.{same-part}
-use Rattle.octets.proofs.Words.{words-agree, words-differ, from-eight}
 use Rattle.octets.proofs.same_64_at.Given as goal
 
 abbrev pub invariant-loop-i : goal.invariant-loop-i

@@ -1,9 +1,6 @@
-use mathlib.Core.Path.{◌≡◌, sym}
-use Prim.Native.Nat.{ℕ, ◌+◌, ◌-◌, ◌≤◌, ◌<◌}
+use mathlib.Core.Path.{sym}
 use native.Mathlib.Omega.{arith}
-use lib.ListN.{length, get_or}
 use borrow.Author.Count.{below_more, below_none}
-use borrow.Author.Rules.{rules}
 use Rattle.octets.proofs.Equal.{same-part, differ-part}
 use Rattle.octets.proofs.same_few_at.Goals as goal
 

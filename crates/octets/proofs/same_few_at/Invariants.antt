@@ -1,11 +1,7 @@
 -- The loop's invariant: the first i bytes agree.
-use mathlib.Core.Path.{◌≡◌, sym}
+use mathlib.Core.Path.{◌≡◌}
 use Prim.Native.Nat.{ℕ, ◌+◌, ◌-◌, ◌≤◌, ◌<◌}
-use native.Mathlib.Omega.{arith}
 use lib.ListN.{length, get_or}
-use borrow.Author.Count.{below_more, below_none}
-use borrow.Author.Rules.{rules}
-use Rattle.octets.proofs.Equal.{same-part, differ-part}
 use Rattle.octets.proofs.same_few_at.Given as goal
 
 abbrev pub invariant-loop-i : goal.invariant-loop-i

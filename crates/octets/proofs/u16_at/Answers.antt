@@ -1,4 +1,3 @@
-use borrow.Author.Rules.{rules}
 use Rattle.octets.proofs.Numbers.{number-two}
 use Rattle.octets.proofs.u16_at.Goals as goal
 

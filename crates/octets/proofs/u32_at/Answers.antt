@@ -1,4 +1,3 @@
-use borrow.Author.Rules.{rules}
 use Rattle.octets.proofs.Numbers.{number-four}
 use Rattle.octets.proofs.u32_at.Goals as goal
 

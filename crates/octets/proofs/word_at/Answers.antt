@@ -1,4 +1,3 @@
-use borrow.Author.Rules.{rules}
 use Rattle.octets.proofs.Words.{word-eight}
 use Rattle.octets.proofs.word_at.Goals as goal
 

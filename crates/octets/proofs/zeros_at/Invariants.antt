@@ -1,11 +1,7 @@
 -- The loop's invariant: the greatest of the first i bytes is zero exactly when each of them is.
-use mathlib.Core.Path.{◌≡◌, refl}
-use Prim.Native.Nat.{ℕ, ◌+◌, ◌-◌, ◌≤◌, ◌<◌, max}
-use native.Mathlib.Omega.{arith}
+use mathlib.Core.Path.{◌≡◌}
+use Prim.Native.Nat.{ℕ, ◌+◌, ◌-◌, ◌≤◌, ◌<◌}
 use lib.ListN.{get_or}
-use borrow.Author.Rules.{rules}
-use borrow.Author.Count.{below_more, below_none}
-use Rattle.octets.proofs.Equal.{all-zero}
 use Rattle.octets.proofs.zeros_at.Given as goal
 
 abbrev pub invariant-loop-i : goal.invariant-loop-i
