@@ -6,18 +6,6 @@ use Rattle.pin_model.proofs.TackShown.{key-size, whole_length}
 use Rattle.pin_refusals_two.proofs.TackTests.{one-key-none, one-key-single, one-key-both}
 use Rattle.pin_refusals_two.proofs.one_key.Goals as goal
 
-pub returns-then-first-eq0 : goal.returns-then-first-eq0
-returns-then-first-eq0 c =
-    one-key-none c.args.first.now c.args.second.now c.if-first-eq0.true
-
-pub returns-then-second-eq0 : goal.returns-then-second-eq0
-returns-then-second-eq0 c =
-    one-key-single c.args.first.now c.args.second.now c.if-second-eq0.true
-
-pub public_key-requires : goal.public_key-requires
-public_key-requires c =
-    whole_length _ c.requires.of_second c.if-second-eq0.false
-
 pub same_64_at-requires : goal.same_64_at-requires
 same_64_at-requires c =
     (

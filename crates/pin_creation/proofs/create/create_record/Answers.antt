@@ -8,16 +8,6 @@ use Rattle.pin_records.proofs.Found.{name-found-at, name-absent}
 use Rattle.pin_creation.proofs.Creation.{holds-name, unwanted, no_room, created}
 use Rattle.pin_creation.proofs.create.create_record.Goals as goal
 
-pub returns-then-not-wants_record : goal.returns-then-not-wants_record
-returns-then-not-wants_record c =
-    unwanted c.args.may_record c.args.name.now c.args.tack.now c.args.clock.0 (decode c.args.area.now) c.requires.0
-    (sym c.wants_record.ensures ∙ c.if-not-wants_record.true)
-
-pub returns-then-not-has_room : goal.returns-then-not-has_room
-returns-then-not-has_room c =
-    no_room c.args.may_record c.args.name.now c.args.tack.now c.args.clock.0 (decode c.args.area.now) c.requires.0
-    (sym c.wants_record.ensures ∙ c.if-not-wants_record.false) (sym c.has_room.ensures ∙ c.if-not-has_room.true)
-
 pub add-requires : goal.add-requires
 add-requires c =
     (
@@ -28,11 +18,6 @@ add-requires c =
       name-absent _ c.requires.0.fits.name_slots c.args.name.now c.in_default.ensures,
       sym c.has_room.ensures ∙ c.if-not-has_room.false,
     )
-
-pub returns-in_default : goal.returns-in_default
-returns-in_default c =
-    created c.args.may_record c.args.name.now c.args.tack.now c.args.clock.0 (decode c.args.area.now) c.add.ensures
-    (sym c.wants_record.ensures ∙ c.if-not-wants_record.false) (sym c.has_room.ensures ∙ c.if-not-has_room.false)
 
 pub replace-requires : goal.replace-requires
 replace-requires c =
@@ -47,8 +32,3 @@ replace-requires c =
       sym c.has_room.ensures ∙ c.if-not-has_room.false,
       c.requires.4,
     )
-
-pub returns : goal.returns
-returns c =
-    created c.args.may_record c.args.name.now c.args.tack.now c.args.clock.0 (decode c.args.area.now) c.replace.ensures
-    (sym c.wants_record.ensures ∙ c.if-not-wants_record.false) (sym c.has_room.ensures ∙ c.if-not-has_room.false)

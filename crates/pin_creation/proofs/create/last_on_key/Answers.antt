@@ -7,10 +7,6 @@ use borrow.Author.Count.{below_more, below_none}
 use Rattle.pin_model.specs.Layout.{decode}
 use Rattle.pin_creation.proofs.RoomFound.{pin_at, Alone, alone-own, alone-other, not_last, is_last}
 use Rattle.pin_creation.proofs.create.last_on_key.Goals as goal
-use Rattle.pin_creation.proofs.create.last_on_key.Goals.{then-m-own+else-refers_to, else-m-own}
-
-pub loop-m-init : goal.loop-m-init
-loop-m-init c = (omega arith, below_none _)
 
 pub refers_to-requires : goal.refers_to-requires
 refers_to-requires c =
@@ -20,19 +16,6 @@ pub returns-then-refers_to : goal.returns-then-refers_to
 returns-then-refers_to c =
     not_last c.requires.0 c.args.n.0 c.key_of-k.result.0 c.requires.2 c.key_of-k.ensures.1 c.loop-m.m c.if-m-own.true
     (sym c.refers_to.ensures ∙ c.if-refers_to.true)
-
-pub loop-m-preserved : goal.loop-m-preserved
-loop-m-preserved c =
-    let n = c.args.n.0 in
-    let k = c.key_of-k.result.0 in
-    let m = c.loop-m.m in (
-      omega arith,
-      below_more _ _ c.loop-m.invariant.1
-          (elim c.if-m-own.branch [
-            then-m-own+else-refers_to w ↦ alone-other c.requires.0 n k m false w.if-m-own.true (sym w.refers_to.ensures ∙ w.if-refers_to.false)
-          | else-m-own w ↦ alone-own c.requires.0 n k c.requires.1 m w.if-m-own.false
-          ]),
-    )
 
 pub returns : goal.returns
 returns c =

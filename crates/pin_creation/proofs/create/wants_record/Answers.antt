@@ -10,11 +10,6 @@ use Rattle.pin_steps.proofs.Tacks.{key-length}
 use Rattle.pin_creation.proofs.Wanted.{by-may-record, wanted-new, wanted-own, wanted-other}
 use Rattle.pin_creation.proofs.create.wants_record.Goals as goal
 
-pub returns-then-not-may_record : goal.returns-then-not-may_record
-returns-then-not-may_record c =
-    by-may-record c.args.name.now c.args.tack.now c.args.clock.0 (decode c.args.area.now)
-    c.if-not-may_record.true refl
-
 pub returns-in_default : goal.returns-in_default
 returns-in_default c =
     by-may-record c.args.name.now c.args.tack.now c.args.clock.0 (decode c.args.area.now)

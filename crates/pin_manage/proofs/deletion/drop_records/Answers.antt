@@ -33,9 +33,6 @@ loop-n-preserved c =
     | else-holds_name w ↦ drop-stays (name_is c.args.name.now) t l.n l.invariant w.area-is (sym c.holds_name.ensures ∙ w.if-holds_name.false)
     ]
 
-pub shape_of-area : goal.shape_of-area
-shape_of-area c = c.loop-n.invariant.long ∙ sym c.requires.0.long
-
 pub returns : goal.returns
 returns c =
     let l = c.loop-n in

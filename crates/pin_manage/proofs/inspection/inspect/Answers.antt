@@ -11,9 +11,6 @@ use Rattle.pin_model.specs.Calls.{inspect, answer}
 use Rattle.pin_model.proofs.LongNames.{inspect-handed}
 use Rattle.pin_manage.proofs.inspection.inspect.Goals as goal
 
-pub slice_bounds-folded-end : goal.slice_bounds-folded-end
-slice_bounds-folded-end c = sym (room c.args.name.now c.fold-n.ensures.length c.fold-n.ensures.bytes)
-
 pub slice_bounds-inspect_folded-end : goal.slice_bounds-inspect_folded-end
 slice_bounds-inspect_folded-end c =
     let s = c.args.name.now in

@@ -33,9 +33,6 @@ loop-i-preserved c =
           c.break_signature.ensures c.break_key.ensures c.break_key-in-loop-i.ensures,
     )
 
-pub shape_of-area : goal.shape_of-area
-shape_of-area c = c.loop-i.invariant.1.long ∙ sym c.requires.0.long
-
 pub returns : goal.returns
 returns c =
     breaks-end c.args.breaks.now (decode c.args.area.now) c.loop-i.i c.loop-i.invariant.1 c.loop-i-test.false

@@ -10,9 +10,6 @@ use Rattle.pin_steps.proofs.DroppedNames.{on_key, key-used, name-stays, name-goe
 use Rattle.pin_steps.proofs.breaks.drop_names.Goals as goal
 use Rattle.pin_steps.proofs.breaks.drop_names.Goals.{then-refers_to, else-refers_to}
 
-pub loop-n-init : goal.loop-n-init
-loop-n-init c = (omega arith, c.requires.0)
-
 pub refers_to-requires : goal.refers_to-requires
 refers_to-requires c =
     let l = c.loop-n in (
@@ -32,9 +29,6 @@ loop-n-preserved c =
       then-refers_to w ↦ (omega arith, name-goes (decode c.args.area.now) c.args.k.0 l.n l.invariant.1 w.area-is (sym c.refers_to.ensures ∙ w.if-refers_to.true) w.clear_name.ensures)
     | else-refers_to w ↦ (omega arith, name-stays (decode c.args.area.now) c.args.k.0 l.n l.invariant.1 w.area-is (sym c.refers_to.ensures ∙ w.if-refers_to.false))
     ]
-
-pub shape_of-area : goal.shape_of-area
-shape_of-area c = c.loop-n.invariant.1.long ∙ sym c.requires.0.long
 
 pub returns : goal.returns
 returns c =

@@ -31,15 +31,6 @@ returns-then-tack-eq0 c =
     (name-found-at _ c.requires.0.fits.name_slots _ _ c.in-At.ensures)
     (sym c.is_active.ensures ∙ c.if-not-is_active.false) c.if-tack-eq0.true
 
-pub key_of-requires : goal.key_of-requires
-key_of-requires c =
-    let x = name-found-at _ c.requires.0.fits.name_slots _ _ c.in-At.ensures in
-    (c.requires.0, x.below, x.in_use)
-
-pub public_key-requires : goal.public_key-requires
-public_key-requires c =
-    whole_length _ c.requires.1 c.if-tack-eq0.false
-
 pub holds_key-requires : goal.holds_key-requires
 holds_key-requires c =
     (c.requires.0, c.key_of.ensures.0, key-length _ c.public_key.ensures (whole_length _ c.requires.1 c.if-tack-eq0.false))
