@@ -1,5 +1,6 @@
 // What the store answers: an enum for each kind of call, and the papers' numbers and alerts for every case.
 #![tactic(auto)]
+
 ghost use Rattle.std.specs.Prelude.{◌≡◌};
 ghost use Rattle.tack_extension.specs.Answers.{alert_of, alert_of_two, bad_certificate};
 ghost use Rattle.pin_answers.specs.Numbers.{refusal_number, verdict_number, judgement_number, deletion_number, starting_number};

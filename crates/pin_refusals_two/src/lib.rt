@@ -1,5 +1,6 @@
 // The refusals that the tacks of a call can meet: 24, those of each tack, 22.
 #![tactic(auto)]
+
 ghost use Rattle.std.specs.Prelude.{◌≡◌, true, length};
 ghost use Rattle.tack_extension.specs.Extension.{tack_length};
 ghost use Rattle.pin_model.specs.Layout.{decode};

@@ -1,7 +1,6 @@
 -- 42, or the alert of edition one.
 use mathlib.Core.Path.{sym, ap, ◌∙◌}
 use mathlib.Core.Bool.{Bool, cond}
-use borrow.Author.Rules.{rules}
 use Rattle.tack_extension.specs.Answers.{alert_of, alert_of_two}
 use Rattle.pin_answers.proofs.alert_of_two.Goals as goal
 

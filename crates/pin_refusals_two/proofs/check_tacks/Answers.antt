@@ -1,8 +1,6 @@
--- 24, then the first tack's, then the second's, then 22.
-use mathlib.Core.Bool.{true, false}
-use borrow.Author.Rules.{rules}
+-- The second tack's refusal, behind the first's tests.
 use Rattle.pin_model.specs.Layout.{decode}
-use Rattle.pin_refusals_two.proofs.TackTests.{refused-one-key, refused-first, refused-second, passed-both}
+use Rattle.pin_refusals_two.proofs.TackTests.{refused-second}
 use Rattle.pin_refusals_two.proofs.check_tacks.Goals as goal
 
 pub returns-in-Refused-check_tack : goal.returns-in-Refused-check_tack

@@ -1,6 +1,4 @@
 -- The lowest free name slot; that there is none contradicts the room.
-use mathlib.Core.Path.{sym, ◌∙◌}
-use borrow.Author.Rules.{rules}
 use Rattle.tack_extension.specs.Tack.{public_key}
 use Rattle.pin_model.specs.Layout.{decode}
 use Rattle.pin_records.proofs.Found.{name-free-at, names-full}

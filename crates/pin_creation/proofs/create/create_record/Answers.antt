@@ -1,23 +1,19 @@
--- By what is wanted and whether there is room, and then by whether the name has a record.
+-- What a name without a record, and the slot of one with a record, may rely on.
 use mathlib.Core.Path.{sym, ◌∙◌}
-use borrow.Author.Rules.{rules}
-use borrow.Author.Tests.{not-true, not-false}
 use Rattle.octets.proofs.Tests.{and_right}
-use Rattle.pin_model.specs.Layout.{decode}
 use Rattle.pin_records.proofs.Found.{name-found-at, name-absent}
-use Rattle.pin_creation.proofs.Creation.{holds-name, unwanted, no_room, created}
+use Rattle.pin_creation.proofs.Creation.{holds-name}
 use Rattle.pin_creation.proofs.create.create_record.Goals as goal
 
 pub add-requires : goal.add-requires
-add-requires c =
-    (
-      c.requires.0,
-      c.requires.1,
-      c.requires.2,
-      c.requires.3,
-      name-absent _ c.requires.0.fits.name_slots c.args.name.now c.in_default.ensures,
-      sym c.has_room.ensures ∙ c.if-not-has_room.false,
-    )
+add-requires c = (
+  c.requires.0,
+  c.requires.1,
+  c.requires.2,
+  c.requires.3,
+  name-absent _ c.requires.0.fits.name_slots c.args.name.now c.in_default.ensures,
+  sym c.has_room.ensures ∙ c.if-not-has_room.false,
+)
 
 pub replace-requires : goal.replace-requires
 replace-requires c =

@@ -1,6 +1,5 @@
 -- By whether the name has a slot, and then by the key: its record, a free slot, or the slot that the removal frees.
 use mathlib.Core.Path.{sym, ◌∙◌}
-use borrow.Author.Rules.{rules}
 use Rattle.pin_model.specs.Layout.{decode}
 use Rattle.pin_records.proofs.Found.{name-found-at, name-absent, name-free-at, names-full}
 use Rattle.pin_creation.proofs.RoomFound.{room-full, room-new, room-key, room-last}

@@ -1,6 +1,4 @@
 -- By the two searches' answers.
-use mathlib.Core.Path.{sym, ◌∙◌}
-use borrow.Author.Rules.{rules}
 use Rattle.pin_records.proofs.Found.{key-free-at, keys-full}
 use Rattle.pin_steps.proofs.Tacks.{key-length, tack-key-at, tack-key-absent}
 use Rattle.pin_creation.proofs.RoomFound.{key-room, slot-room, no-key-room}

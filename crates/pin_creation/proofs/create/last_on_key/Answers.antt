@@ -1,11 +1,6 @@
 use mathlib.Core.Path.{sym, ◌∙◌}
-use mathlib.Core.Bool.{false}
-use Prim.Native.Nat.{◌-◌, ◌≤◌}
 use native.Mathlib.Omega.{arith}
-use borrow.Author.Rules.{rules}
-use borrow.Author.Count.{below_more, below_none}
-use Rattle.pin_model.specs.Layout.{decode}
-use Rattle.pin_creation.proofs.RoomFound.{pin_at, Alone, alone-own, alone-other, not_last, is_last}
+use Rattle.pin_creation.proofs.RoomFound.{pin_at, not_last, is_last}
 use Rattle.pin_creation.proofs.create.last_on_key.Goals as goal
 
 pub refers_to-requires : goal.refers_to-requires

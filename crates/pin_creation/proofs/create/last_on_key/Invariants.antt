@@ -1,13 +1,7 @@
 -- The loop's invariant: none of the first m slots but the record's own is pinned to its key.
-use mathlib.Core.Path.{sym, ◌∙◌}
-use mathlib.Core.Bool.{false}
-use mathlib.Core.Logic.{⊎_elim}
 use Prim.Native.Nat.{◌-◌, ◌≤◌}
-use native.Mathlib.Omega.{arith}
-use borrow.Author.Rules.{rules}
-use borrow.Author.Count.{below_more, below_none}
 use Rattle.pin_model.specs.Layout.{decode}
-use Rattle.pin_creation.proofs.RoomFound.{pin_at, Alone, alone-own, alone-other, not_last, is_last}
+use Rattle.pin_creation.proofs.RoomFound.{Alone}
 use Rattle.pin_creation.proofs.create.last_on_key.Given as goal
 
 abbrev pub invariant-loop-m : goal.invariant-loop-m

@@ -1,5 +1,4 @@
 -- After the removal the area holds the table without the name, and there is room for the key.
-use borrow.Author.Rules.{rules}
 use Rattle.tack_extension.specs.Tack.{public_key}
 use Rattle.pin_model.specs.Layout.{decode}
 use Rattle.pin_records.proofs.HeldSlots.{holds-stored}

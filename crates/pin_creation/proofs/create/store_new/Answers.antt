@@ -1,5 +1,4 @@
 -- The key's slot is used, and no slot has the name.
-use borrow.Author.Rules.{rules}
 use Rattle.pin_model.specs.Layout.{decode}
 use Rattle.pin_creation.proofs.Creation.{slots-ready, record-stored}
 use Rattle.pin_creation.proofs.create.store_new.Goals as goal

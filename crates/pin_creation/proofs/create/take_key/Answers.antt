@@ -1,6 +1,4 @@
 -- The key's old record, or a new one in the lowest free slot; that there is none contradicts the room.
-use mathlib.Core.Path.{sym, ◌∙◌}
-use borrow.Author.Rules.{rules}
 use Rattle.pin_records.proofs.Found.{key-absent, key-free-at, keys-full}
 use Rattle.pin_steps.proofs.Tacks.{key-length, tack-key-at, tack-key-absent}
 use Rattle.pin_creation.proofs.KeyTaken.{key-kept, key-made, key-refused}

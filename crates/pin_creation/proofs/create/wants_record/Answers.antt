@@ -1,9 +1,7 @@
 -- A call that may not make a record wants none; else by the name's slot, where it has one: its key is compared by the slot that it
 -- points to.
-use mathlib.Core.Path.{refl, sym, ◌∙◌, ap}
+use mathlib.Core.Path.{sym, ◌∙◌, ap}
 use mathlib.Core.Bool.{not}
-use borrow.Author.Rules.{rules}
-use borrow.Author.Tests.{not-true, not-false}
 use Rattle.pin_model.specs.Layout.{decode}
 use Rattle.pin_records.proofs.Found.{name-found-at, name-absent}
 use Rattle.pin_steps.proofs.Tacks.{key-length}

@@ -5,7 +5,6 @@ use Prim.Native.Nat.{ℕ}
 use native.Mathlib.Omega.{arith}
 use lib.ListN.{length-take}
 use lib.Seq.{length-take-le}
-use borrow.Author.Rules.{rules}
 use Rattle.host_name.proofs.Folded.{front, room}
 use Rattle.pin_model.specs.Calls.{delete, answer, area_after}
 use Rattle.pin_model.proofs.LongNames.{delete-handed}

@@ -1,12 +1,11 @@
 -- Each answer, and the area that goes with it.
-use mathlib.Core.Path.{sym, ap, ◌∙◌}
+use mathlib.Core.Path.{sym}
 use borrow.Author.Rules.{rules}
 use Rattle.pin_model.specs.Table.{name_is}
 use Rattle.pin_model.specs.Layout.{decode}
 use Rattle.pin_model.specs.Fits.{holds}
 use Rattle.pin_model.specs.Refusals.{name_test}
 use Rattle.pin_model.specs.Calls.{refusal, delete}
-use Rattle.pin_answers.specs.Numbers.{checked_number}
 use Rattle.pin_records.specs.Find.{first_slot}
 use Rattle.pin_records.proofs.HeldSlots.{holds-stored}
 use Rattle.pin_records.proofs.Found.{name-there, name-found-at, name-absent}

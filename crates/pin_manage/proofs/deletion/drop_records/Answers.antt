@@ -1,14 +1,11 @@
 use mathlib.Core.Path.{sym, ◌∙◌}
-use Prim.Native.Nat.{◌-◌}
 use native.Mathlib.Omega.{arith}
-use borrow.Author.Rules.{rules}
 use Rattle.pin_model.specs.Table.{name_is}
 use Rattle.pin_model.specs.Layout.{decode}
 use Rattle.pin_model.specs.Fits.{holds}
-use Rattle.pin_records.specs.Holds.{Holds}
 use Rattle.pin_records.proofs.Placed.{first-before}
 use Rattle.pin_records.proofs.HeldSlots.{holds-stored}
-use Rattle.pin_records.proofs.DroppedNames.{dropped, drop-start, drop-stays, drop-goes, drop-end}
+use Rattle.pin_records.proofs.DroppedNames.{drop-start, drop-stays, drop-goes, drop-end}
 use Rattle.pin_manage.proofs.deletion.drop_records.Goals as goal
 use Rattle.pin_manage.proofs.deletion.drop_records.Goals.{then-holds_name, else-holds_name}
 
@@ -29,8 +26,8 @@ loop-n-preserved c =
     let l = c.loop-n in
     let t = decode c.args.area.now in
     elim c.if-holds_name.branch [
-      then-holds_name w ↦ drop-goes (name_is c.args.name.now) t l.n l.invariant w.area-is (sym c.holds_name.ensures ∙ w.if-holds_name.true) w.clear_name.ensures
-    | else-holds_name w ↦ drop-stays (name_is c.args.name.now) t l.n l.invariant w.area-is (sym c.holds_name.ensures ∙ w.if-holds_name.false)
+      | then-holds_name w ↦ drop-goes (name_is c.args.name.now) t l.n l.invariant w.area-is (sym c.holds_name.ensures ∙ w.if-holds_name.true) w.clear_name.ensures
+      | else-holds_name w ↦ drop-stays (name_is c.args.name.now) t l.n l.invariant w.area-is (sym c.holds_name.ensures ∙ w.if-holds_name.false)
     ]
 
 pub returns : goal.returns

@@ -1,16 +1,9 @@
 -- The invariant: the name's records in the first n slots are gone.
-use mathlib.Core.Path.{sym, ◌∙◌}
-use mathlib.Core.Logic.{⊎_elim}
 use Prim.Native.Nat.{◌-◌}
-use native.Mathlib.Omega.{arith}
-use borrow.Author.Rules.{rules}
 use Rattle.pin_model.specs.Table.{name_is}
 use Rattle.pin_model.specs.Layout.{decode}
-use Rattle.pin_model.specs.Fits.{holds}
 use Rattle.pin_records.specs.Holds.{Holds}
-use Rattle.pin_records.proofs.Placed.{first-before}
-use Rattle.pin_records.proofs.HeldSlots.{holds-stored}
-use Rattle.pin_records.proofs.DroppedNames.{dropped, drop-start, drop-stays, drop-goes, drop-end}
+use Rattle.pin_records.proofs.DroppedNames.{dropped}
 use Rattle.pin_manage.proofs.deletion.drop_records.Given as goal
 
 abbrev pub invariant-loop-n : goal.invariant-loop-n

@@ -3,10 +3,8 @@ use mathlib.Core.Path.{sym, ap, ◌∙◌}
 use mathlib.Core.Option.{none}
 use Prim.Native.Nat.{ℕ}
 use lib.ListN.{get_or}
-use borrow.Author.Rules.{rules}
 use Rattle.pin_model.specs.Layout.{decode}
 use Rattle.pin_model.specs.Refusals.{name_test}
-use Rattle.pin_answers.specs.Numbers.{checked_number}
 use Rattle.pin_refusals.proofs.Passed.{ready}
 use Rattle.pin_refusals.proofs.Clocks.{above, within}
 use Rattle.pin_manage.specs.Inspected.{inspected_slot}

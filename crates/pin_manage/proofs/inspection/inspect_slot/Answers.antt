@@ -1,10 +1,9 @@
 -- The fields that were read are those of the slot's record.
-use mathlib.Core.Path.{sym, ap, ◌∙◌}
+use mathlib.Core.Path.{ap, ◌∙◌}
 use mathlib.Core.Option.{none}
 use Prim.Native.Nat.{ℕ}
 use native.Mathlib.Omega.{arith}
 use lib.ListN.{get_or}
-use borrow.Author.Rules.{rules}
 use Rattle.pin_model.specs.Layout.{decode}
 use Rattle.pin_model.specs.Fits.{floor_at}
 use Rattle.pin_manage.proofs.Differences.{difference-kept}

@@ -1,5 +1,4 @@
 -- An area of another length is refused; any other becomes zeros but for the edition.
-use borrow.Author.Rules.{rules}
 use Rattle.pin_manage.proofs.Started.{start-refused, started}
 use Rattle.pin_manage.proofs.starting.start.Goals as goal
 

@@ -1,10 +1,6 @@
-use mathlib.Core.Path.{◌≡◌, sym, ◌∙◌}
-use Prim.Native.Nat.{◌≤◌, ◌-◌}
+use mathlib.Core.Path.{sym, ◌∙◌}
 use native.Mathlib.Omega.{arith}
-use borrow.Author.Rules.{rules}
-use Rattle.tack_extension.specs.Tack.{break_signatures}
-use Rattle.pin_model.specs.Refusals.{all_correct}
-use Rattle.pin_refusals.proofs.BreakBits.{low_bits, bits-start, bit-missing, bit-there, bits-over}
+use Rattle.pin_refusals.proofs.BreakBits.{bits-start, bit-missing, bit-there, bits-over}
 use Rattle.pin_refusals.proofs.connection.breaks_correct.Goals as goal
 
 pub loop-i-init : goal.loop-i-init

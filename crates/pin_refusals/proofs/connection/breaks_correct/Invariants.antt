@@ -1,11 +1,9 @@
 -- The loop's invariant: all are correct exactly if the bits left say so of those left.
-use mathlib.Core.Path.{◌≡◌, sym, ◌∙◌}
+use mathlib.Core.Path.{◌≡◌}
 use Prim.Native.Nat.{◌≤◌, ◌-◌}
-use native.Mathlib.Omega.{arith}
-use borrow.Author.Rules.{rules}
 use Rattle.tack_extension.specs.Tack.{break_signatures}
 use Rattle.pin_model.specs.Refusals.{all_correct}
-use Rattle.pin_refusals.proofs.BreakBits.{low_bits, bits-start, bit-missing, bit-there, bits-over}
+use Rattle.pin_refusals.proofs.BreakBits.{low_bits}
 use Rattle.pin_refusals.proofs.connection.breaks_correct.Given as goal
 
 abbrev pub invariant-loop-i : goal.invariant-loop-i

@@ -1,13 +1,11 @@
--- Each test that fails is the first that does, and behind them the tack's.
+-- What the parts of a well-formed extension are, for the two calls that take them.
 use mathlib.Core.Path.{sym, ◌∙◌, ap}
 use mathlib.Core.List.{List}
 use Prim.Native.Nat.{ℕ}
 use native.Mathlib.Omega.{arith}
 use lib.ListN.{length}
-use borrow.Author.Rules.{rules}
-use borrow.Author.Tests.{not-true, not-false}
 use Rattle.tack_extension.specs.Extension.{tack_length}
-use Rattle.pin_refusals.proofs.Shown.{malformed, well-shown, below, not-below}
+use Rattle.pin_refusals.proofs.Shown.{well-shown}
 use Rattle.pin_refusals.proofs.connection.check_connection.Goals as goal
 
 pub breaks_correct-requires : goal.breaks_correct-requires

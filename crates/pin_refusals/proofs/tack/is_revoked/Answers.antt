@@ -2,7 +2,6 @@
 use mathlib.Core.Path.{sym, ◌∙◌, ap, ap₂}
 use lib.Dec.{ltb}
 use lib.ListN.{length}
-use borrow.Author.Rules.{rules}
 use Rattle.pin_records.proofs.Found.{key-found-at}
 use Rattle.pin_model.proofs.TackShown.{key-size}
 use Rattle.pin_refusals.proofs.Floors.{not-revoked, revoked-by}

@@ -2,7 +2,6 @@
 use mathlib.Core.Path.{sym, ◌∙◌, ap}
 use native.Mathlib.Omega.{arith}
 use lib.ListN.{length}
-use borrow.Author.Rules.{rules}
 use Rattle.pin_model.proofs.TackShown.{target-size, hash-differs}
 use Rattle.pin_refusals.proofs.Shown.{hash-whole}
 use Rattle.pin_refusals.proofs.tack.targets.Goals as goal

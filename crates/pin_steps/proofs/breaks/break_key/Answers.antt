@@ -1,6 +1,4 @@
 -- The key is found or not: step 3 for this key in each case.
-use mathlib.Core.Path.{sym, ◌∙◌}
-use borrow.Author.Rules.{rules}
 use Rattle.pin_records.proofs.HeldSlots.{holds-stored}
 use Rattle.pin_records.proofs.Found.{key-found-at, key-absent}
 use Rattle.pin_steps.proofs.BrokenKeys.{break-absent, broken-used, broken-unnamed, break-cleared}

@@ -1,13 +1,7 @@
-use mathlib.Core.Path.{sym, ◌∙◌}
-use Prim.Native.Nat.{◌-◌, ◌/◌, ◌≤◌}
 use native.Mathlib.Omega.{arith}
-use lib.ListN.{length}
-use borrow.Author.Rules.{rules}
 use Rattle.pin_model.specs.Layout.{decode}
-use Rattle.pin_model.specs.Judge.{break}
-use Rattle.pin_records.specs.Holds.{Holds}
 use Rattle.pin_records.proofs.HeldSlots.{holds-stored}
-use Rattle.pin_steps.proofs.BreakParts.{signed-length, broken-length, first_broken, breaks-start, breaks-next, breaks-end}
+use Rattle.pin_steps.proofs.BreakParts.{signed-length, broken-length, breaks-start, breaks-next, breaks-end}
 use Rattle.pin_steps.proofs.breaks.break_keys.Goals as goal
 
 pub loop-i-init : goal.loop-i-init

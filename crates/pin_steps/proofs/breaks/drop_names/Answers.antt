@@ -1,11 +1,8 @@
 use mathlib.Core.Path.{sym, ◌∙◌}
-use Prim.Native.Nat.{◌-◌, ◌≤◌}
 use native.Mathlib.Omega.{arith}
-use borrow.Author.Rules.{rules}
 use Rattle.pin_model.specs.Layout.{decode}
-use Rattle.pin_records.specs.Holds.{Holds}
 use Rattle.pin_records.proofs.HeldSlots.{holds-stored}
-use Rattle.pin_records.proofs.DroppedNames.{dropped, drop-end}
+use Rattle.pin_records.proofs.DroppedNames.{drop-end}
 use Rattle.pin_steps.proofs.DroppedNames.{on_key, key-used, name-stays, name-goes}
 use Rattle.pin_steps.proofs.breaks.drop_names.Goals as goal
 use Rattle.pin_steps.proofs.breaks.drop_names.Goals.{then-refers_to, else-refers_to}
@@ -26,8 +23,8 @@ pub loop-n-preserved : goal.loop-n-preserved
 loop-n-preserved c =
     let l = c.loop-n in
     elim c.if-refers_to.branch [
-      then-refers_to w ↦ (omega arith, name-goes (decode c.args.area.now) c.args.k.0 l.n l.invariant.1 w.area-is (sym c.refers_to.ensures ∙ w.if-refers_to.true) w.clear_name.ensures)
-    | else-refers_to w ↦ (omega arith, name-stays (decode c.args.area.now) c.args.k.0 l.n l.invariant.1 w.area-is (sym c.refers_to.ensures ∙ w.if-refers_to.false))
+      | then-refers_to w ↦ (omega arith, name-goes (decode c.args.area.now) c.args.k.0 l.n l.invariant.1 w.area-is (sym c.refers_to.ensures ∙ w.if-refers_to.true) w.clear_name.ensures)
+      | else-refers_to w ↦ (omega arith, name-stays (decode c.args.area.now) c.args.k.0 l.n l.invariant.1 w.area-is (sym c.refers_to.ensures ∙ w.if-refers_to.false))
     ]
 
 pub returns : goal.returns

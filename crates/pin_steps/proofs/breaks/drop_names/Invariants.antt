@@ -1,14 +1,9 @@
 -- The invariant: the names in the first n slots that are pinned to the key are gone.
-use mathlib.Core.Path.{sym, ◌∙◌}
-use mathlib.Core.Logic.{⊎_elim}
 use Prim.Native.Nat.{◌-◌, ◌≤◌}
-use native.Mathlib.Omega.{arith}
-use borrow.Author.Rules.{rules}
 use Rattle.pin_model.specs.Layout.{decode}
 use Rattle.pin_records.specs.Holds.{Holds}
-use Rattle.pin_records.proofs.HeldSlots.{holds-stored}
-use Rattle.pin_records.proofs.DroppedNames.{dropped, drop-end}
-use Rattle.pin_steps.proofs.DroppedNames.{on_key, key-used, name-stays, name-goes}
+use Rattle.pin_records.proofs.DroppedNames.{dropped}
+use Rattle.pin_steps.proofs.DroppedNames.{on_key}
 use Rattle.pin_steps.proofs.breaks.drop_names.Given as goal
 
 abbrev pub invariant-loop-n : goal.invariant-loop-n

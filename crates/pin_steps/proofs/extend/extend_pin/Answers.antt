@@ -1,7 +1,5 @@
 -- The name is found or not, with the tack's key or another: step 2(i) in each case.
 use mathlib.Core.Path.{sym, ◌∙◌}
-use borrow.Author.Rules.{rules}
-use borrow.Author.Tests.{not-true, not-false}
 use Rattle.pin_records.proofs.Found.{name-found-at, name-absent}
 use Rattle.pin_steps.proofs.Tacks.{key-length}
 use Rattle.pin_steps.proofs.PinnedTests.{pinned-test}

@@ -1,7 +1,5 @@
 -- The key is found or not, and its floor is lower or not: step 1 in each case.
-use mathlib.Core.Path.{sym, ◌∙◌}
 use native.Mathlib.Omega.{arith}
-use borrow.Author.Rules.{rules}
 use Rattle.pin_steps.proofs.Tacks.{key-length, tack-key-at, tack-key-absent}
 use Rattle.pin_steps.proofs.Floors.{raise-absent, raise-kept, raise-stored}
 use Rattle.pin_steps.proofs.raise.raise_floor.Goals as goal
