@@ -1,5 +1,6 @@
 // One turn of a replay: the call in front of the bytes is read and judged, and its line is written.
 #![tactic(auto)]
+
 ghost use Rattle.std.specs.Prelude.{◌≡◌, true, ◌+◌, ◌≤◌, ◌<◌, ◌/◌, ◌%◌, eqb, length};
 ghost use Rattle.octets.specs.Octets.{part};
 ghost use Rattle.pin_model.specs.Sound.{sound};

@@ -1,6 +1,5 @@
 -- What is read in the two bytes is the answers.
 use mathlib.Core.Path.{refl}
-use borrow.Author.Rules.{rules}
 use Rattle.night_play.proofs.OneTurn.{checks-read}
 use Rattle.night_play.proofs.checks_at.Goals as goal
 

@@ -2,10 +2,7 @@
 use mathlib.Core.Path.{refl}
 use native.Mathlib.Omega.{arith}
 use Rattle.octets.specs.Octets.{part}
-use borrow.Author.Rules.{rules}
 use Rattle.night_play.proofs.extension_at.Goals as goal
-
-
 
 pub slice_bounds-result-count : goal.slice_bounds-result-count
 slice_bounds-result-count c = omega (arith, c.requires.extension c.if-extension_came.true)

@@ -5,7 +5,6 @@ use Rattle.octets.specs.Octets.{part}
 use Rattle.pin_model.specs.Connection.{Connection}
 use Rattle.pin_model.specs.Calls.{judge, answered, area_left}
 use Rattle.night_play.proofs.OneTurn.{call-read, part-between}
-use borrow.Author.Rules.{rules}
 use Rattle.night_play.proofs.judge_call.Goals as goal
 
 pub judge_sound_area-requires : goal.judge_sound_area-requires

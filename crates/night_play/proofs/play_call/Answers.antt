@@ -1,8 +1,7 @@
 -- Each answer by what stands in front of the night's bytes.
 use native.Mathlib.Omega.{arith}
 use Rattle.night_report.proofs.Lines.{line-length}
-use Rattle.night_play.proofs.OneTurn.{judgement-alert, called, cut, spoilt, placed, cut-within, played-line, played-cut, played-bad}
-use borrow.Author.Rules.{rules}
+use Rattle.night_play.proofs.OneTurn.{judgement-alert, played-line, played-cut, played-bad}
 use Rattle.night_play.proofs.play_call.Goals as goal
 
 pub judge_call-judgement-requires : goal.judge_call-judgement-requires

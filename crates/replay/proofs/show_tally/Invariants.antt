@@ -1,6 +1,5 @@
 -- The loop ends behind the last number.
 use Prim.Native.Nat.{◌-◌, ◌≤◌}
-use borrow.Author.Rules.{rules}
 use Rattle.replay.proofs.show_tally.Given as goal
 
 abbrev pub invariant-loop-number : goal.invariant-loop-number

@@ -1,9 +1,7 @@
-use mathlib.Core.Path.{◌≡◌, refl, sym, ap, ◌∙◌}
-use Prim.Native.Nat.{◌+◌, ◌-◌, ◌≤◌}
+use mathlib.Core.Path.{refl, sym, ap, ◌∙◌}
 use native.Mathlib.Omega.{arith}
-use lib.ListN.{length, take, length-set}
-use borrow.Author.Rules.{rules}
-use Rattle.octets.specs.Octets.{part, put}
+use lib.ListN.{length-set}
+use Rattle.octets.specs.Octets.{put}
 use Rattle.octets.proofs.Parts.{put-none}
 use Rattle.replay.proofs.Moves.{move_step, all-taken}
 use Rattle.replay.proofs.input.move_to_front.Goals as goal

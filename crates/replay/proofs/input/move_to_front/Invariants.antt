@@ -1,12 +1,8 @@
 -- The loop's invariant: the first i bytes stand in front, and the length is as it was.
-use mathlib.Core.Path.{◌≡◌, refl, sym, ap, ◌∙◌}
+use mathlib.Core.Path.{◌≡◌}
 use Prim.Native.Nat.{◌+◌, ◌-◌, ◌≤◌}
-use native.Mathlib.Omega.{arith}
-use lib.ListN.{length, take, length-set}
-use borrow.Author.Rules.{rules}
+use lib.ListN.{length, take}
 use Rattle.octets.specs.Octets.{part, put}
-use Rattle.octets.proofs.Parts.{put-none}
-use Rattle.replay.proofs.Moves.{move_step, all-taken}
 use Rattle.replay.proofs.input.move_to_front.Given as goal
 
 abbrev pub invariant-loop-i : goal.invariant-loop-i

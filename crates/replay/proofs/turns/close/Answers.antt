@@ -1,7 +1,6 @@
 -- The last line fits.
 use native.Mathlib.Omega.{arith}
 use Rattle.night_report.proofs.Lines.{total-length}
-use borrow.Author.Rules.{rules}
 use Rattle.replay.proofs.turns.close.Goals as goal
 
 pub write-requires : goal.write-requires

@@ -1,7 +1,6 @@
 -- The bytes kept and those read stand within the buffer.
 use mathlib.Core.Path.{refl}
 use native.Mathlib.Omega.{arith}
-use borrow.Author.Rules.{rules}
 use Rattle.replay.proofs.turns.read_more.Goals as goal
 
 pub returns-in-To : goal.returns-in-To

@@ -4,7 +4,6 @@ use Prim.Native.Nat.{ℕ}
 use lib.ListN.{length-replicate}
 use Rattle.pin_model.proofs.SoundTable.{empty-zeros}
 use Rattle.pin_model.specs.Run.{area_of}
-use borrow.Author.Rules.{rules}
 use Rattle.replay.proofs.turns.replay.Goals as goal
 
 pub run-requires : goal.run-requires

@@ -1,9 +1,5 @@
-use mathlib.Core.Path.{◌≡◌, refl}
-use Prim.Native.Nat.{◌+◌, ◌≤◌}
+use mathlib.Core.Path.{refl}
 use native.Mathlib.Omega.{arith}
-use lib.ListN.{length}
-use borrow.Author.Rules.{rules}
-use Rattle.replay.specs.Progress.{InOrder, Reached}
 use Rattle.replay.proofs.Steps.{at-start, its-tally}
 use Rattle.replay.proofs.turns.run.Goals as goal
 

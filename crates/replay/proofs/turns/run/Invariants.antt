@@ -1,11 +1,8 @@
 -- The loop's invariant: the places are in order, the area is sound, and the calls can be counted.
-use mathlib.Core.Path.{◌≡◌, refl}
+use mathlib.Core.Path.{◌≡◌}
 use Prim.Native.Nat.{◌+◌, ◌≤◌}
-use native.Mathlib.Omega.{arith}
 use lib.ListN.{length}
-use borrow.Author.Rules.{rules}
 use Rattle.replay.specs.Progress.{InOrder, Reached}
-use Rattle.replay.proofs.Steps.{at-start, its-tally}
 use Rattle.replay.proofs.turns.run.Given as goal
 
 abbrev pub invariant-loop-turns : goal.invariant-loop-turns

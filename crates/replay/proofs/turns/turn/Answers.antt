@@ -4,7 +4,6 @@ use native.Mathlib.Omega.{arith}
 use Rattle.replay.proofs.Places.{line-places, cut-places}
 use Rattle.tally.specs.declared.Tally.{Tally}
 use Rattle.replay.proofs.Steps.{reached-sound, call-more, cut-same, bad-same, same-reached}
-use borrow.Author.Rules.{rules}
 use Rattle.replay.proofs.turns.turn.Goals as goal
 
 pub play_lending-played-requires : goal.play_lending-played-requires

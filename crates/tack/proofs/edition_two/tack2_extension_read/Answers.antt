@@ -1,6 +1,5 @@
 -- Each case has the number, the alert and the flags of the definition.
-use mathlib.Core.Path.{sym, ap, ◌∙◌}
-use borrow.Author.Rules.{rules}
+use mathlib.Core.Path.{ap}
 use Rattle.tack_extension.specs.Answers.{alert_of, alert_of_two}
 use Rattle.tack.specs.ExtensionTwo.{reading_two_answer}
 use Rattle.tack.proofs.edition_two.tack2_extension_read.Goals as goal

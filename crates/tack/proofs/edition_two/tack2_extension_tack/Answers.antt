@@ -1,6 +1,5 @@
 -- The span is the asked tack's, and cuts it out.
 use mathlib.Core.Bool.{true, false}
-use borrow.Author.Rules.{rules}
 use Rattle.tack.proofs.SpansTwo.{span-two}
 use Rattle.tack.proofs.edition_two.tack2_extension_tack.Goals as goal
 

@@ -1,8 +1,6 @@
 -- The contract of judging in edition two, with its answer as numbers.
-use mathlib.Core.Path.{refl, sym, ap, ◌∙◌}
-use borrow.Author.Rules.{rules}
+use mathlib.Core.Path.{refl}
 use Rattle.tack_extension.specs.Answers.{alert_of_two}
-use Rattle.pin_answers.specs.Numbers.{judgement_two_answer}
 use Rattle.tack.proofs.Outcomes.{judgement-is}
 use Rattle.tack.proofs.edition_two.tack2_judge.Goals as goal
 

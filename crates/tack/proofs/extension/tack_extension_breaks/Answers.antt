@@ -1,5 +1,4 @@
 -- The span is the break signatures', and cuts them out.
-use borrow.Author.Rules.{rules}
 use Rattle.tack.proofs.Spans.{breaks-span}
 use Rattle.tack.proofs.extension.tack_extension_breaks.Goals as goal
 

@@ -1,6 +1,5 @@
 -- Each case has the number, the alert and the activation of the definition.
-use mathlib.Core.Path.{sym, ap, ◌∙◌}
-use borrow.Author.Rules.{rules}
+use mathlib.Core.Path.{ap}
 use Rattle.tack_extension.specs.Answers.{alert_of}
 use Rattle.tack.specs.Extension.{reading_answer}
 use Rattle.tack.proofs.extension.tack_extension_read.Goals as goal

@@ -1,5 +1,4 @@
 -- The span is the tack's, and cuts it out.
-use borrow.Author.Rules.{rules}
 use Rattle.tack.proofs.Spans.{tack-span}
 use Rattle.tack.proofs.extension.tack_extension_tack.Goals as goal
 

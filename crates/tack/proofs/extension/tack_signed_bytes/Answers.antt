@@ -1,6 +1,5 @@
 -- The writer's own contract, with its answer as numbers.
 use mathlib.Core.Path.{ap, ◌∙◌}
-use borrow.Author.Rules.{rules}
 use Rattle.tack.specs.Extension.{writing_answer}
 use Rattle.tack.proofs.extension.tack_signed_bytes.Goals as goal
 

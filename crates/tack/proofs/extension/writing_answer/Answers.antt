@@ -1,6 +1,5 @@
 -- Each case has the number, the alert and the count of the definition.
 use mathlib.Core.Path.{sym, ap}
-use borrow.Author.Rules.{rules}
 use Rattle.tack_extension.specs.Answers.{alert_of}
 use Rattle.tack.specs.Extension.{writing_answer}
 use Rattle.tack.proofs.extension.writing_answer.Goals as goal

@@ -1,5 +1,4 @@
 -- The deletion's own contract, with its answer as numbers.
-use borrow.Author.Rules.{rules}
 use Rattle.tack.proofs.Outcomes.{outcome-is, deletion-alert}
 use Rattle.tack.proofs.table.tack_delete.Goals as goal
 

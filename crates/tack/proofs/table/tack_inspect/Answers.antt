@@ -1,10 +1,9 @@
 -- Each case has the numbers of the inspection's own contract.
 use mir.Syntax.{w64}
 use mir.Val.{SFits}
-use mathlib.Core.Path.{refl, sym, ap, ◌∙◌}
+use mathlib.Core.Path.{refl, ap}
 use borrow.Author.Rules.{rules}
 use Rattle.tack_extension.specs.Answers.{alert_of}
-use Rattle.pin_answers.specs.Numbers.{inspection_answer}
 use Rattle.tack.specs.Table.{inspection_of}
 use Rattle.tack.proofs.Outcomes.{inspection-refused, inspection-ended}
 use Rattle.tack.proofs.table.tack_inspect.Goals as goal

@@ -1,8 +1,6 @@
 -- Judging's own contract, with its answer as numbers.
-use mathlib.Core.Path.{refl, sym, ap, ◌∙◌}
-use borrow.Author.Rules.{rules}
+use mathlib.Core.Path.{refl}
 use Rattle.tack_extension.specs.Answers.{alert_of}
-use Rattle.pin_answers.specs.Numbers.{judgement_answer}
 use Rattle.tack.proofs.Outcomes.{judgement-is}
 use Rattle.tack.proofs.table.tack_judge.Goals as goal
 

@@ -1,5 +1,4 @@
 -- Starting's own contract, with its answer as numbers.
-use borrow.Author.Rules.{rules}
 use Rattle.tack.proofs.Outcomes.{outcome-is, starting-alert}
 use Rattle.tack.proofs.table.tack_start.Goals as goal
 
