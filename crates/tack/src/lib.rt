@@ -1,4 +1,4 @@
-// The C interface: include/tack.h declares these functions, and `rt staticlib tack` builds libtack.a. Each passes on to a
+// The C interface: include/tack.h declares these functions, and `rt lib` builds out/libtack.a. Each passes on to a
 // proved function, and its contract is that function's with the papers' numbers.
 #![tactic(auto)]
 
