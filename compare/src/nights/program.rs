@@ -53,7 +53,11 @@ impl Replayed {
 
 /// The proved program, or how to build it.
 pub fn proved() -> Result<PathBuf, String> {
-    find("REPLAY_PROGRAM", "crates/replay/out/replay", "(cd crates/replay && rt run < stdin)")
+    find(
+        "REPLAY_PROGRAM",
+        "crates/replay/out/replay",
+        "(cd crates/replay && rt run < stdin)",
+    )
 }
 
 /// The second program, or how to build it.
