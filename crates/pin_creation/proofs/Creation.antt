@@ -1,6 +1,6 @@
--- Step 2(ii) on an area: the new record in a free slot or in its old one.
-use mathlib.Core.Path.{◌≡◌, sym, ◌∙◌, ap, subst}
-use mathlib.Core.Bool.{Bool, true, false, cond, ◌||◌, true≢false, false≢true}
+-- Step 2(ii) on an area: the new record in a free slot or in its old one, and the step's answer.
+use mathlib.Core.Path.{◌≡◌, refl, sym, ◌∙◌, ap, ap₂, subst}
+use mathlib.Core.Bool.{Bool, true, false, cond, not, ◌&&◌, ◌||◌, true≢false, false≢true}
 use mathlib.Core.List.{List}
 use mathlib.Core.Option.{Option, none, some}
 use Prim.Native.Nat.{ℕ, ◌≤◌, ◌<◌}
@@ -18,7 +18,7 @@ use Rattle.pin_model.specs.Table.{KeyRecord, NameRecord, Table, holding, key_is,
 use Rattle.pin_model.specs.Layout.{key_at, decode}
 use Rattle.pin_model.specs.SoundTable.{sound_table}
 use Rattle.pin_model.specs.Fits.{holds}
-use Rattle.pin_model.specs.Judge.{wants_record, room_for, new_name, new_key, keyed_for, with_record}
+use Rattle.pin_model.specs.Judge.{wants_record, room_for, new_name, new_key, create, no_room_for, keyed_for, with_record}
 use Rattle.pin_model.specs.JudgeTwo.{key_room}
 use Rattle.pin_model.proofs.Places.{any_at, count_set}
 use Rattle.pin_model.proofs.Lists.{count_none, count-some}
@@ -149,3 +149,25 @@ module _ (name tack : List ℕ) (clock : ℕ) (t : Table) (sound : sound_table (
           ∙ sym (found-changed x (name-once (facts name tack clock t sound) one name) (λ r. new))
           ∙ ap (λ (b : Bool). cond b (changed (name_is name) (λ r. new) t.names) (placed new t.names)) (sym x.recorded))
           (subst (λ (u : Table). Holds a (with_name (with_keys (keyed_for tack u.keys) u) n (some new))) (holds-decode g) h)
+
+-- the step's answer and its table
+module _ (may : Bool) (name tack : List ℕ) (clock : ℕ) (t : Table) {b : List ℕ} where
+  answered : (wants room : Bool) → wants_record may name clock tack t ≡ wants → room_for name tack t ≡ room
+      → Holds b (cond (wants && room) (with_record name clock tack t) t)
+      → ((wants && not room) ≡ no_room_for may name clock tack t) × Holds b (create may name clock tack t)
+  answered wants room e f h = (
+    sym (ap₂ (λ (w r : Bool). w && not r) e f),
+    subst (λ (made : Bool). Holds b (cond made (with_record name clock tack t) t)) (sym (ap₂ ◌&&◌ e f)) h,
+  )
+
+  pub unwanted : Holds b t → wants_record may name clock tack t ≡ false
+      → (false ≡ no_room_for may name clock tack t) × Holds b (create may name clock tack t)
+  unwanted h e = answered false (room_for name tack t) e refl h
+
+  pub no_room : Holds b t → wants_record may name clock tack t ≡ true → room_for name tack t ≡ false
+      → (true ≡ no_room_for may name clock tack t) × Holds b (create may name clock tack t)
+  no_room h e f = answered true false e f h
+
+  pub created : Holds b (with_record name clock tack t) → wants_record may name clock tack t ≡ true → room_for name tack t ≡ true
+      → (false ≡ no_room_for may name clock tack t) × Holds b (create may name clock tack t)
+  created h e f = answered true true e f h

@@ -6,7 +6,7 @@ use mathlib.Core.Option.{Option, none, some}
 use Prim.Native.Nat.{ℕ, ◌≤◌, ◌<◌}
 use native.Mathlib.Omega.{arith}
 use lib.ListN.{get_or, set, length-set}
-use lib.Seq.{get_or-set_other}
+use lib.Seq.{get_or-set_same, get_or-set_other}
 use Rattle.octets.specs.Octets.{any}
 use Rattle.tack_extension.specs.Tack.{public_key}
 use Rattle.pin_model.specs.Slots.{used, has_free}
@@ -51,7 +51,12 @@ abbrev pub Alone : Table → ℕ → ℕ → ℕ → Type 0
 Alone t own k m = (j : ℕ) → j < m → holds (on_key t k) (get_or (set t.names own none) j none) ≡ false
 
 module _ {b : List ℕ} {t : Table} (h : Holds b t) (own k : ℕ) where
-  -- another slot than the record's own
+  -- the record's own slot, and another
+  pub alone-own : own < 128 → (m : ℕ) → m ≡ own → holds (on_key t k) (get_or (set t.names own none) m none) ≡ false
+  alone-own l m e =
+      ap (λ (j : ℕ). holds (on_key t k) (get_or (set t.names own none) j none)) e
+      ∙ ap (holds (on_key t k)) (get_or-set_same t.names own none none (omega (arith, h.fits.name_slots)))
+
   pub alone-other : (m : ℕ) (b : Bool) → (m ≡ own → ⊥) → holds (on_key t k) (get_or t.names m none) ≡ b → holds (on_key t k) (get_or (set t.names own none) m none) ≡ b
   alone-other m b d e = ap (holds (on_key t k)) (get_or-set_other t.names own m none none d) ∙ e
 

@@ -3,7 +3,8 @@ use mathlib.Core.Path.{◌≡◌, refl, sym, ap, ap₂, ◌∙◌}
 use mathlib.Core.Bool.{Bool, true, false, cond, not, ◌&&◌, ◌||◌, true≢false}
 use mathlib.Core.List.{List}
 use Prim.Native.Nat.{ℕ, ◌+◌, ◌*◌, ◌%◌, ◌^◌, ◌<◌}
-use borrow.Author.Count.{below_more}
+use lib.ListN.{replicate}
+use borrow.Author.Count.{below_more, below_none}
 use borrow.Author.Tests.{eqb-true}
 use Rattle.octets.specs.Search.{every}
 use Rattle.octets.proofs.Tests.{is_false, and_left, and_right}
@@ -14,7 +15,7 @@ use Rattle.pin_model.specs.Sound.{same_key, key_twice, same_name, name_twice, sa
 use Rattle.pin_distinct.specs.Hashes.{key_mark, name_mark, pin_mark}
 use Rattle.pin_distinct.specs.SeenMarks.{is_seen, with_seen}
 use Rattle.pin_distinct.specs.Pins.{pin_again, pins_distinct, no_name_thrice}
-use Rattle.pin_distinct.proofs.Seen.{MarksSeen, passed_over, passed-marked, unseen}
+use Rattle.pin_distinct.proofs.Seen.{MarksSeen, none_seen, passed_over, passed-marked, unseen}
 
 -- the marks of the used key slots, and of the used name slots by pin and by name
 abbrev pub KeysSeen : List ℕ → List ℕ → ℕ → Type 0
@@ -92,6 +93,9 @@ pub record FewSeen (b seen again : List ℕ) (n : ℕ) : Type 0 where
   pub few : (j : ℕ) → j < n → name_thrice b j ≡ false
   pub names : NamesSeen b seen n
   pub doubles : DoublesSeen b again n
+
+pub few-none : (b : List ℕ) → FewSeen b (replicate 128 0) (replicate 128 0) 0
+few-none b = record { few = below_none _; names = none_seen _ _; doubles = none_seen _ _ }
 
 module _ (b : List ℕ) {seen again : List ℕ} {n : ℕ} (a : FewSeen b seen again n) where
   pub few-free : is_used (name_slot b n) ≡ false → FewSeen b seen again (n + 1)

@@ -3,8 +3,11 @@ use mathlib.Core.Path.{◌≡◌, refl, sym, ap, ap₂, ◌∙◌}
 use mathlib.Core.Bool.{Bool, true, false}
 use mathlib.Core.List.{List, ◌++◌}
 use Prim.Native.Nat.{ℕ, suc, ◌+◌, ◌*◌, ◌-◌, ◌/◌, ◌%◌, ◌<◌}
+use native.Mathlib.Nat.{mod-lt, div-lt_iff_lt-mul}
 use native.Mathlib.Omega.{arith}
 use lib.ListN.{length, replicate}
+use mir.Syntax.{w64}
+use mir.Val.{Fits}
 use Rattle.octets.specs.Octets.{part, all_zero}
 use Rattle.octets.specs.Words.{word}
 use Rattle.octets.proofs.Tests.{and_left, and_right}
@@ -63,3 +66,10 @@ used-formed b n h l u =
     let s : name_shaped (latest_in b) (name_slot b n) ≡ true = every-at (λ m. name_shaped (latest_in b) (name_slot b m)) 128 n h l in
     let r : name_right (latest_in b) (name_slot b n) ≡ true = rw u at s in
     and_left (name_formed (name_slot b n)) _ (and_right (all_zero (part (name_slot b n) 12 4)) _ r)
+
+-- a rotated word has 64 bits
+rotated-below : (x y : ℕ) → x < 2251799813685248 → y < 8192 → x * 8192 + y < 18446744073709551616
+rotated-below x y l m = omega arith
+
+pub rotated-fits : (h : ℕ) → Fits w64 h → Fits w64 (h % 2251799813685248 * 8192 + h / 2251799813685248)
+rotated-fits h f = record { fits = rotated-below (h % 2251799813685248) (h / 2251799813685248) (mod-lt h (omega arith)) ((div-lt_iff_lt-mul (omega arith)).1 f.fits) }

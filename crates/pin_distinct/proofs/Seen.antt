@@ -3,8 +3,8 @@ use mathlib.Core.Path.{◌≡◌, sym, ap, ◌∙◌}
 use mathlib.Core.Bool.{Bool, true, false, true≢false}
 use mathlib.Core.List.{List}
 use Prim.Native.Nat.{ℕ, ◌+◌, ◌<◌}
-use lib.ListN.{length}
-use borrow.Author.Count.{below_more}
+use lib.ListN.{length, replicate, length-replicate}
+use borrow.Author.Count.{below_more, below_none}
 use Rattle.octets.specs.Search.{some}
 use Rattle.octets.proofs.Tests.{is_false}
 use Rattle.octets.proofs.Search.{some-false}
@@ -15,6 +15,10 @@ use Rattle.pin_distinct.proofs.SeenBits.{with_size, now-seen, still_seen}
 pub record MarksSeen (leaves : ℕ → Bool) (mark : ℕ → ℕ) (seen : List ℕ) (n : ℕ) : Type 0 where
   pub size : length seen ≡ 128
   pub marked : (j : ℕ) → j < n → leaves j ≡ true → is_seen seen (mark j) ≡ true
+
+module _ (leaves : ℕ → Bool) (mark : ℕ → ℕ) where
+  pub none_seen : MarksSeen leaves mark (replicate 128 0) 0
+  none_seen = record { size = length-replicate {A = ℕ} 128 0; marked = below_none _ }
 
 module _ {leaves : ℕ → Bool} {mark : ℕ → ℕ} {seen : List ℕ} {n : ℕ} (a : MarksSeen leaves mark seen n) where
   pub passed_over : leaves n ≡ false → MarksSeen leaves mark seen (n + 1)

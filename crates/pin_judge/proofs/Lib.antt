@@ -2,3 +2,4 @@ pub mod Learnt
 pub mod Steps
 pub mod ByParts
 pub mod Passing
+pub mod Refusing

@@ -1,8 +1,8 @@
 -- What the area holds after steps 1 and 2, and after all of them.
-use mathlib.Core.Path.{◌≡◌, sym, ap, ap₂, subst, ◌∙◌}
+use mathlib.Core.Path.{◌≡◌, refl, sym, ap, ap₂, subst, ◌∙◌}
 use mathlib.Core.Bool.{Bool, true, false}
 use mathlib.Core.List.{List, map}
-use mathlib.Core.Option.{Option, some}
+use mathlib.Core.Option.{Option, none, some}
 use Prim.Native.Nat.{ℕ, ◌≤◌}
 use Rattle.tack_extension.specs.Tack.{break_key, break_signatures}
 use Rattle.pin_model.specs.Table.{clock_limit, Table, settled_at}
@@ -41,6 +41,10 @@ ready-to-create on name clock tack t u its h one in_order in_limit = (
 )
 
 module _ (on may : Bool) (name : List ℕ) (clock : ℕ) (tack : List ℕ) (t : Table) where
+  pub nothing-shown : {d : List ℕ} → unless_empty tack ≡ none → Holds d t
+      → (false ≡ no_room_in on may name clock (unless_empty tack) t) × Holds d (learn on may name clock (unless_empty tack) t)
+  nothing-shown {d} e h = subst (λ (shown : Option (List ℕ)). Learnt on may name clock t false d shown) (sym e) (refl, h)
+
   pub created : (u : Table) → u ≡ extend on name clock tack (raise tack t) → {d : List ℕ} {r : Bool} → unless_empty tack ≡ some tack
       → (r ≡ no_room_for may name clock tack u) × Holds d (create may name clock tack u)
       → (r ≡ no_room_in on may name clock (unless_empty tack) t) × Holds d (learn on may name clock (unless_empty tack) t)

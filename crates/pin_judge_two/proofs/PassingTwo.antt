@@ -29,6 +29,10 @@ use Rattle.pin_model.proofs.TacksShown.{good-tacks}
 use Rattle.pin_model.proofs.SoundFacts.{sound-facts}
 use Rattle.pin_model.proofs.SoundTwo.{raised-stage}
 use Rattle.pin_refusals.proofs.Passed.{area-passes, call-refused, Ready, ready}
+use Rattle.pin_answers.specs.Numbers.{refusal_number, checked_number}
+use Rattle.pin_answers.specs.declared.Refusal.{Refusal}
+use Rattle.pin_answers.specs.declared.Checked.{Checked}
+use Rattle.pin_answers.specs.declared.Checked.TheVariants as checked
 use Rattle.pin_refusals_two.specs.Parts.{tacks_by, both_tacks, TackParts}
 use Rattle.pin_steps_two.specs.SettledTwo.{SettledTwo}
 use Rattle.pin_steps_two.specs.StepsTwo.{steps_two, steps_answer_two}
@@ -61,6 +65,19 @@ pub in-order-settled : {area name : List ℕ} {clock : ℕ} (first second : List
 in-order-settled {area} {name} {clock} f s flags known =
     from-stage (raised-stage name clock (tacks_by f s flags) (sound-facts (decode area) known.admitted.table_sound)
     known.admitted.of_edition_two known.clock_in_order known.admitted.clock_in_limit)
+
+-- the answer and the area by a refusal, or by none
+module _ {k : Checked} {o : Option ℕ} (e : checked_number k ≡ o) (a : Answer) (b x : List ℕ) where
+  pub by-refused : {r : Refusal} → k ≡ checked.Refused r → (judgement true (refusal_number r) false ≡ answer_by true o a) × (b ≡ area_by o (λ n. b) x)
+  by-refused {r} d =
+      let is : o ≡ some (refusal_number r) = sym e ∙ ap checked_number d in
+      (sym (ap (λ (n : Option ℕ). answer_by true n a) is), sym (ap (λ (n : Option ℕ). area_by n (λ m. b) x) is))
+
+  pub by-passed : k ≡ checked.Passed → {y : Answer} {after : List ℕ} → y ≡ a → after ≡ x
+      → (y ≡ answer_by true o a) × (after ≡ area_by o (λ n. b) x)
+  by-passed d f g =
+      let is : o ≡ none = sym e ∙ ap checked_number d in
+      (f ∙ sym (ap (λ (n : Option ℕ). answer_by true n a) is), g ∙ sym (ap (λ (n : Option ℕ). area_by n (λ m. b) x) is))
 
 -- 14, by the numbers that were read
 pub early : {x y a b : ℕ} → x ≡ a → y ≡ b → x < y → a < b

@@ -1,5 +1,5 @@
 -- What a refused call answers and leaves, and what a call knows whose area has passed.
-use mathlib.Core.Path.{◌≡◌, sym, ap}
+use mathlib.Core.Path.{◌≡◌, sym, ap, ◌∙◌}
 use mathlib.Core.Bool.{Bool, true, false}
 use mathlib.Core.List.{List, ◌++◌}
 use mathlib.Core.Option.{Option, none, some}
@@ -7,12 +7,14 @@ use Prim.Native.Nat.{ℕ}
 use lib.ListN.{length}
 use borrow.Author.Tests.{eq-eqb}
 use Rattle.octets.specs.Octets.{Bytes}
+use Rattle.host_name.specs.Name.{well_formed}
 use Rattle.pin_model.specs.Layout.{area_length, encode, decode}
 use Rattle.pin_model.specs.Sound.{sound}
 use Rattle.pin_model.specs.SoundTable.{sound_table}
-use Rattle.pin_model.specs.Refusals.{first, area_tests}
+use Rattle.pin_model.specs.Refusals.{first, area_tests, name_test}
 use Rattle.pin_model.specs.Calls.{Call, in_two, judgement, refusal, unrefused, table_after, answer_by, answer, refused_area, area_after}
 use Rattle.pin_model.proofs.Rules.{rules-of}
+use Rattle.pin_model.proofs.First.{first-here, first-later}
 use Rattle.pin_model.proofs.Refusals.{AreaFacts, area-facts}
 use Rattle.pin_model.proofs.SoundArea.{SoundArea, sound-decode, sound-fits}
 use Rattle.pin_model.proofs.SoundFacts.{SoundFacts, sound-facts}
@@ -22,6 +24,18 @@ use Rattle.pin_records.specs.Holds.{Stored}
 -- a sound area passes 10 and 11
 pub area-passes : (b : List ℕ) → sound b ≡ true → first (area_tests b) ≡ none
 area-passes b h = simp (eq-eqb (length b) area_length (rules-of b h).whole, h)
+
+-- 10 to 12, by what 10 and 11 give and by the name
+module _ (b name : List ℕ) where
+  pub named-refused : (n : ℕ) → first (area_tests b) ≡ some n → first (area_tests b ++ name_test name) ≡ some n
+  named-refused n e = first-here (area_tests b) (name_test name) n e
+
+  module _ (passed : first (area_tests b) ≡ none) where
+    pub named-malformed : well_formed name ≡ false → first (area_tests b ++ name_test name) ≡ some 12
+    named-malformed e = first-later (area_tests b) (name_test name) passed ∙ simp e
+
+    pub named-passes : well_formed name ≡ true → first (area_tests b ++ name_test name) ≡ none
+    named-passes e = first-later (area_tests b) (name_test name) passed ∙ simp e
 
 module _ (call : Call) (b : List ℕ) where
   answer-by : (o : Option ℕ) → refusal call b ≡ o → answer call b ≡ answer_by (in_two call) o (unrefused call (decode b))

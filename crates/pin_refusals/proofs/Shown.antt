@@ -3,11 +3,12 @@ use mathlib.Core.Path.{◌≡◌, refl, sym, ◌∙◌, ap}
 use mathlib.Core.Bool.{true, false}
 use mathlib.Core.List.{List}
 use mathlib.Core.Option.{Option, none, some}
-use Prim.Native.Nat.{ℕ, ◌≤◌}
+use Prim.Native.Nat.{ℕ, ◌≤◌, ◌<◌}
 use native.Mathlib.Omega.{arith}
-use lib.Dec.{eqb}
+use lib.Dec.{eqb, ltb}
 use lib.ListN.{length}
 use lib.Seq.{take_all}
+use borrow.Author.Tests.{lt-ltb, le-ltb}
 use Rattle.octets.specs.Octets.{part, same}
 use Rattle.octets.proofs.Tests.{and_left, and_right}
 use Rattle.octets.proofs.Options.{clash, by_option}
@@ -58,3 +59,10 @@ well-shown s a e =
 pub hash-whole : (t : List ℕ) → length t ≡ 166 → (b h : List ℕ) → b ≡ target_hash t → length h ≡ 32 → same (part b 0 (length h)) h ≡ same (target_hash t) h
 unfolding part
 hash-whole t size b h e d = rw (e, d) (ap (λ (a : List ℕ). same a h) (take_all 32 (target_hash t) (omega (arith, target-size t size))))
+
+-- a test of two numbers that were read
+pub below : {a b x y : ℕ} → x ≡ a → y ≡ b → x < y → ltb a b ≡ true
+below {a} {b} e d h = lt-ltb a b (omega arith)
+
+pub not-below : {a b x y : ℕ} → x ≡ a → y ≡ b → y ≤ x → ltb a b ≡ false
+not-below {a} {b} e d h = le-ltb a b (omega arith)

@@ -1,25 +1,51 @@
--- The verdict by the one slot that has the name.
+-- Whether a slot's pin is active, and the verdict by the one slot that has the name.
 use mathlib.Core.Path.{◌≡◌, refl, sym, ◌∙◌, ap, ap₂}
 use mathlib.Core.Bool.{Bool, true, false, cond, ◌&&◌, and_assoc}
 use mathlib.Core.List.{List}
-use mathlib.Core.Option.{Option, none}
+use mathlib.Core.Option.{Option, none, some}
 use Prim.Native.Nat.{ℕ}
 use native.Mathlib.Omega.{arith}
+use lib.Dec.{ltb}
 use lib.ListN.{length, get_or}
 use Rattle.octets.specs.Octets.{any}
 use Rattle.octets.proofs.Tests.{and_left}
 use Rattle.octets.proofs.Equal.{same-turned}
+use Rattle.octets.proofs.Options.{clash}
 use Rattle.tack_extension.specs.Tack.{public_key}
 use Rattle.pin_model.specs.Slots.{used}
-use Rattle.pin_model.specs.Table.{NameRecord, Table, name_is, pinned_to, active}
+use Rattle.pin_model.specs.Table.{NameRecord, Table, name_is, pinned_to, before, active}
 use Rattle.pin_model.specs.Fits.{holds}
 use Rattle.pin_model.specs.Connection.{unless_empty, shows}
 use Rattle.pin_model.specs.Judge.{active_of, verdict_by}
 use Rattle.pin_model.proofs.TackShown.{not-shown, shown}
 use Rattle.pin_model.proofs.Lists.{any-ext, none-implied}
+use Rattle.pin_table.specs.declared.minutes.Minutes.{Minutes}
 use Rattle.pin_records.specs.Holds.{Holds}
+use Rattle.pin_records.specs.Find.{end_at}
+use Rattle.pin_records.specs.Read.{end_found}
+use Rattle.pin_records.specs.declared.read.PinEnd.TheVariants as pin-end
 use Rattle.pin_records.proofs.DistinctNames.{one-record}
 use Rattle.pin_records.proofs.Found.{FoundAt, found-any}
+
+-- by the end that was read
+module _ (clock : ℕ) where
+  pub active-absent : (x : Option NameRecord) → pin-end.Absent ≡ end_found (end_at x) → false ≡ holds (active clock) x
+  active-absent none e = refl
+  active-absent (some r) e = go r.end e
+    where
+      go : (end : Option ℕ) → pin-end.Absent ≡ end_found end → false ≡ before clock end
+      go none e = refl
+      go (some end) e = clash (cc)
+
+  pub active-at : (x : Option NameRecord) (m : Minutes) → pin-end.At m ≡ end_found (end_at x) → ltb clock m.0 ≡ holds (active clock) x
+  active-at none m e = clash (cc)
+  active-at (some r) m e = go r.end e
+    where
+      go : (end : Option ℕ) → pin-end.At m ≡ end_found end → ltb clock m.0 ≡ before clock end
+      go none e = clash (cc)
+      go (some end) e =
+          let q : ◌≡◌ {A = Minutes} m (record { 0 = end }) = cc in
+          ap (λ (y : Minutes). ltb clock y.0) q
 
 module _ {b : List ℕ} {t : Table} (h : Holds b t) (name : List ℕ) (clock : ℕ) (tack : List ℕ) where
   -- whether a record's key is that of the tack that is shown

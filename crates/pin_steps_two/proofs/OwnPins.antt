@@ -159,6 +159,17 @@ module _ (name : List ℕ) (clock : ℕ) (t : Table) (d : List ℕ) where
   abbrev pub Learned : List Shown → Bool → Type 0
   Learned tacks lacks = (lacks ≡ no_room_each name clock tacks t) × Holds d (learn_each name clock tacks t)
 
+  pub learned-none : (enabled : Bool) (tack : List ℕ) → length tack ≡ 0 → Holds d t → Learned (shown_in enabled tack) false
+  learned-none enabled [] e h = (refl, h)
+  learned-none enabled (b ∷ bs) e h = absurd (omega arith)
+
+  pub learned-disabled : (on : Bool) → on ≡ false → (tack : List ℕ) → Holds d t → Learned (shown_in on tack) false
+  learned-disabled on e tack h = subst (λ (b : Bool). Learned (shown_in b tack) false) (sym e) (go tack)
+    where
+      go : (tack : List ℕ) → Learned (shown_in false tack) false
+      go [] = (refl, h)
+      go (b ∷ bs) = (refl, h)
+
   pub learned-extended : (on : Bool) → on ≡ true → (tack : List ℕ) → length tack ≡ 166 → has_own name tack t ≡ true
       → Holds d (extend true name clock tack t) → Learned (shown_in on tack) false
   learned-extended on e tack l own h = subst (λ (b : Bool). Learned (shown_in b tack) false) (sym e) (go tack l own h)
