@@ -27,7 +27,7 @@ fn move_to_front(s: &mut [u8], from: usize, n: usize)
 }
 
 // Says on standard error what failed, and how.
-pub fn fail(rt: &HostRuntime, what: &str, error: io::Error) {
+pub(crate) fn fail(rt: &HostRuntime, what: &str, error: io::Error) {
     let _ = eprintln!(rt; "{what}: {error}");
 }
 
