@@ -5,14 +5,10 @@ use Prim.Native.Nat.{ℕ, ◌+◌}
 use native.Mathlib.Omega.{arith}
 use lib.ListN.{length, length-append}
 use Rattle.octets.specs.Octets.{big_endian}
-use Rattle.octets.proofs.Numbers.{big_endian-length, big_endian-two}
+use Rattle.octets.proofs.Numbers.{big_endian-length}
 use Rattle.pin_model.specs.Connection.{Connection}
 use Rattle.recorded_call.specs.RecordedCall.{field_bytes, answer_byte, extension_bytes, call_bytes}
 use Rattle.recorded_call.proofs.Bytes.{field-length}
-
--- the clock's field has four bytes
-pub clock-field : (v : ℕ) → (1 ∷ 0 ∷ 4 ∷ []) ++ big_endian 4 v ≡ field_bytes 1 (big_endian 4 v)
-clock-field v = rw (big_endian-length 4 v, big_endian-two 4) refl
 
 front_length : (tag : ℕ) (v r : List ℕ) → length (field_bytes tag v ++ r) ≡ 3 + length v + length r
 front_length tag v r = length-append (field_bytes tag v) r ∙ ap (λ (n : ℕ). n + length r) (field-length tag v)

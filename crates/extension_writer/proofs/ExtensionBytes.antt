@@ -1,10 +1,9 @@
 -- The extension's bytes, as the pieces that the writer puts behind each other, and their length.
-use mathlib.Core.Path.{◌≡◌, refl, ◌∙◌}
+use mathlib.Core.Path.{◌≡◌}
 use mathlib.Core.Logic.{⊎_elim}
 use mathlib.Core.Bool.{true, ◌&&◌}
 use mathlib.Core.List.{List, [], ◌∷◌, ◌++◌, append_assoc}
-use Prim.Native.Nat.{ℕ, ◌+◌, ◌%◌, ◌≤◌, ◌<◌}
-use native.Mathlib.Nat.{mod-eq_of_lt}
+use Prim.Native.Nat.{ℕ, ◌+◌, ◌≤◌}
 use native.Mathlib.Omega.{arith}
 use lib.Dec.{leb, eqb}
 use lib.ListN.{length, length-append}
@@ -38,10 +37,7 @@ good-sizes t b a h =
 regroup : (v t w b x : List ℕ) → (((v ++ t) ++ w) ++ b) ++ x ≡ v ++ (t ++ (w ++ (b ++ x)))
 regroup v t w b x = simp append_assoc
 
-pub joined : (t b : List ℕ) (a : ℕ) → length t < 256 → length b < 65536
-    → (((([] ++ (length t % 256 ∷ [])) ++ t) ++ big_endian 2 (length b % 65536)) ++ b) ++ (a ∷ []) ≡ bytes_of (parts t b a)
+pub joined : (t b : List ℕ) (a : ℕ)
+    → (((([] ++ (length t ∷ [])) ++ t) ++ big_endian 2 (length b)) ++ b) ++ (a ∷ []) ≡ bytes_of (parts t b a)
 unfolding bytes_of
-joined t b a h k =
-    let x : length t % 256 ≡ length t = mod-eq_of_lt h in
-    let y : length b % 65536 ≡ length b = mod-eq_of_lt k in
-    regroup (length t % 256 ∷ []) t (big_endian 2 (length b % 65536)) b (a ∷ []) ∙ rw (x, y) refl
+joined t b a = regroup (length t ∷ []) t (big_endian 2 (length b)) b (a ∷ [])

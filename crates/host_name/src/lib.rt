@@ -11,7 +11,7 @@ ghost use Rattle.host_name.specs.Scan.{name_byte, to_dot, Rest};
 fn letter_or_digit(b: u8) -> bool
     ensures { result ≡ letter_or_digit b }
 {
-    ((b'a' <= b) & (b <= b'z')) | ((b'0' <= b) & (b <= b'9'))
+    b.is_ascii_lowercase() | b.is_ascii_digit()
 }
 
 // Whether the byte may stand in a name.
@@ -25,28 +25,16 @@ pub fn name_byte(b: u8) -> bool
 fn only_name_bytes(name: &[u8]) -> bool
     ensures { result ≡ all name_byte name.now }
 {
-    let mut only = true;
-    let mut i = 0;
-    while i < name.len() {
-        only = only & name_byte(name[i]);
-        i += 1;
-    }
-    only
+    name.iter().fold(true, |only, b| only & name_byte(*b))
 }
 
 // The place of the first dot from `at` on, or the end.
 fn label_end(name: &[u8; 256], at: usize) -> usize
-    requires { (length name.now ≡ 256) × (at ≤ 256) }
+    requires { at ≤ 256 }
     ensures { (result ≤ 256) × (result ≡ at + length (to_dot (drop at name.now))) }
 {
-    let mut i = at;
-    while i < 256 {
-        if name[i] == b'.' {
-            return i;
-        }
-        i += 1;
-    }
-    i
+    let rest = &name[at..];
+    at + rest.iter().position(|b| *b == b'.').unwrap_or(rest.len())
 }
 
 // Inside the label that starts at `at`, whose first byte is read.

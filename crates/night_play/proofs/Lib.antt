@@ -1,4 +1,2 @@
 pub mod OneTurn
-pub mod Counted
-mod Facts
 pub mod Tallies

@@ -9,6 +9,8 @@ use native.Mathlib.Omega.{arith}
 use lib.Dec.{ltb, leb}
 use lib.ListN.{length, get_or, length-append, get_or-append}
 use borrow.Author.Tests.{lt-ltb, le-ltb, le-leb, ltb-false}
+use Rattle.std.specs.Prelude as std
+use Rattle.std.proofs.lemmas.Fmt.{decimal_by_steps}
 use Rattle.octets.specs.Octets.{all}
 use Rattle.octets.proofs.Tests.{by_test, below_or, and_both, and_left, and_right}
 use Rattle.night_report.specs.Report.{digits_within, decimal}
@@ -117,3 +119,9 @@ decimal-digits =
     by_digits (λ n. all is_digit (decimal n) ≡ true)
     (λ n h. rw (decimal-low n h) (all_snoc is_digit [] (48 + n) refl (is_digit_lem n h)))
     (λ n h tenth. rw (decimal-high n h) (all_snoc is_digit (decimal (n / 10)) (48 + n % 10) tenth (is_digit_lem (n % 10) (omega arith))))
+
+-- std's digits are these
+pub written_so : (n : ℕ) → n < 18446744073709551616 → std.decimal n ≡ decimal n
+written_so n h =
+    decimal_by_steps (λ m ds. ds ≡ decimal m) (λ m l. sym (decimal-low m l))
+    (λ m ds ten e. ap (λ (s : List ℕ). s ++ ((48 + m % 10) ∷ [])) e ∙ sym (decimal-high m ten)) n h

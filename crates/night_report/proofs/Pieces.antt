@@ -1,14 +1,11 @@
 -- Pieces written one behind another are one splice, as the writers' contracts say it.
-use mathlib.Core.Path.{◌≡◌, refl, sym, ap, ◌∙◌}
-use mathlib.Core.List.{List, [], ◌∷◌, ◌++◌}
-use Prim.Native.Nat.{ℕ, ◌+◌, ◌/◌, ◌%◌, ◌≤◌, ◌<◌}
+use mathlib.Core.Path.{◌≡◌, refl}
+use mathlib.Core.List.{List, ◌++◌}
+use Prim.Native.Nat.{ℕ, ◌+◌, ◌≤◌}
 use native.Mathlib.Omega.{arith}
-use lib.ListN.{length, set, length-append}
+use lib.ListN.{length, length-append}
 use Rattle.octets.specs.Octets.{put}
-use Rattle.octets.proofs.Parts.{put-length, set-put}
 use Rattle.octets.proofs.Runs as runs
-use Rattle.night_report.specs.Report.{decimal}
-use Rattle.night_report.proofs.Decimal.{decimal-low, decimal-high, high-length}
 
 -- p stands from `at` in what was b and is now, and the next place is `end`
 abbrev pub Wrote : List ℕ → ℕ → List ℕ → List ℕ → ℕ → Type 0
@@ -26,20 +23,3 @@ four-behind b at p q r s room w₁ w₂ w₃ w₄ =
     let three = length-append ((p ++ q) ++ r) s in
     let two = length-append (p ++ q) r in
     behind b at ((p ++ q) ++ r) s room (behind b at (p ++ q) r (omega arith) (behind b at p q (omega arith) w₁ w₂) w₃) w₄
-
--- the only digit, and the last one
-module _ (b : List ℕ) (at n : ℕ) (room : at + length (decimal n) ≤ length b) where
-  pub one-digit : n < 10 → Wrote b at (decimal n) (set b at (48 + n)) (at + 1)
-  one-digit h =
-      let e = decimal-low n h in
-      let l : length (decimal n) ≡ 1 = rw e refl in
-      (rw e refl, set-put b at (48 + n) (omega arith) ∙ ap (put b at) (sym e))
-
-  pub last-digit : {now : List ℕ} {last : ℕ} → 10 ≤ n → Wrote b at (decimal (n / 10)) now last
-      → Wrote b at (decimal n) (set now last (48 + n % 10)) (last + 1)
-  last-digit {now} {last} h w =
-      let more = high-length n h in
-      let whole = decimal-high n h in
-      let same : length now ≡ length b = ap length w.1 ∙ put-length b at (decimal (n / 10)) (omega arith) in
-      rw whole
-      (behind b at (decimal (n / 10)) ((48 + n % 10) ∷ []) (rw whole at room) w (refl, set-put now last (48 + n % 10) (omega arith)))

@@ -1,16 +1,20 @@
 -- Laws of `same`, `all` and `all_zero`: what a loop that compares has to show.
 use mathlib.Core.Path.{◌≡◌, refl, sym, ap, ◌∙◌, subst}
-use mathlib.Core.Bool.{Bool, true, false, false≢true}
+use mathlib.Core.Bool.{Bool, true, false≢true, ◌&&◌, and_assoc}
 use mathlib.Core.List.{List, [], ◌∷◌}
-use Prim.Native.Nat.{ℕ, zero, suc, ◌+◌, ◌-◌, ◌≤◌, ◌<◌}
+use Prim.Native.Nat.{ℕ, zero, suc, ◌+◌, ◌-◌, ◌≤◌, ◌<◌, max}
 use native.Mathlib.Omega.{arith}
 use lib.Dec.{eqb}
-use lib.ListN.{length, get_or, replicate, length-replicate, get_or-replicate}
-use lib.Seq.{ext_get_or}
+use lib.Pointwise.{pointwise}
+use lib.ListN.{length, get_or, take, drop, replicate, length-drop, length-replicate, get_or-replicate}
+use lib.Seq.{ext_get_or, take_all}
 use borrow.Author.Tests.{eqb-true, eq-eqb}
+use Rattle.std.proofs.Common.{rules, ⊎_elim}
+use Rattle.std.specs.List.{fold}
+use Rattle.std.proofs.lemmas.Bool.Decides.{nat_tests}
 use Rattle.octets.specs.Octets.{part, same, all, all_zero}
-use Rattle.octets.proofs.Tests.{is_false, both_ways, and_left, and_right, and_both}
-use Rattle.octets.proofs.Parts.{part_length, part_at}
+use Rattle.octets.proofs.Tests.{below_or, both_ways, and_left, and_right, and_both}
+use Rattle.octets.proofs.Parts.{part_length, part_at, part-lent, part-part}
 
 pub same_true : (xs ys : List ℕ) → same xs ys ≡ true → xs ≡ ys
 unfolding same
@@ -21,6 +25,20 @@ same_true (x ∷ xs) (y ∷ ys) e =
     let h : x ≡ y = eqb-true x y (and_left (eqb x y) (same xs ys) e) in
     let t : xs ≡ ys = same_true xs ys (and_right (eqb x y) (same xs ys) e) in
     cc
+
+-- as `==` compares two slices
+compared : (xs ys : List ℕ) → pointwise eqb xs ys ≡ same xs ys
+unfolding same
+compared [] [] = refl
+compared [] (y ∷ ys) = refl
+compared (x ∷ xs) [] = refl
+compared (x ∷ xs) (y ∷ ys) = ap (λ (b : Bool). eqb x y && b) (compared xs ys)
+
+-- as `==` compares the part that `&s[at..end]` lends
+pub compared_at : (s : List ℕ) (at : ℕ) (p : List ℕ) → at + length p ≤ length s
+    → pointwise eqb (take (at + length p - at) (drop at s)) p ≡ same (part s at (length p)) p
+compared_at s at p h =
+    compared _ p ∙ ap (λ (l : List ℕ). same l p) (part-lent s at (length p) (at + length p) refl h).0
 
 pub same_refl : (xs : List ℕ) → same xs xs ≡ true
 unfolding same
@@ -39,9 +57,6 @@ same-turned xs ys =
 pub same-both : (x a b : List ℕ) → same x a ≡ true → same x b ≡ true → same a b ≡ true
 same-both x a b e d = subst (λ (y : List ℕ). same y b ≡ true) (same_true x a e) d
 
-same-differ : (xs ys : List ℕ) (i : ℕ) → (get_or xs i 0 ≡ get_or ys i 0 → ⊥) → same xs ys ≡ false
-same-differ xs ys i h = is_false (same xs ys) (λ e. h (ap (λ (l : List ℕ). get_or l i 0) (same_true xs ys e)))
-
 same-all : (xs ys : List ℕ) → length xs ≡ length ys → ((i : ℕ) → i < length xs → get_or xs i 0 ≡ get_or ys i 0) → same xs ys ≡ true
 same-all xs ys e h = same-eq xs ys (ext_get_or 0 xs ys e h)
 
@@ -52,8 +67,31 @@ module _ (b : List ℕ) (at : ℕ) (p : List ℕ) (fits : at + length p ≤ leng
       let n : length (part b at (length p)) ≡ length p = part_length b at (length p) fits in
       same-all (part b at (length p)) p n (λ i l. let m : i < length p = omega arith in part_at b at (length p) i m ∙ h i m)
 
-  pub differ-part : (i : ℕ) → i < length p → (get_or b (at + i) 0 ≡ get_or p i 0 → ⊥) → same (part b at (length p)) p ≡ false
-  differ-part i l h = same-differ (part b at (length p)) p i (λ e. h (sym (part_at b at (length p) i l) ∙ e))
+-- where the first d bytes agree, the rest decides, as `&p[d..]` lends it
+module _ (b : List ℕ) (at : ℕ) (p : List ℕ) (d : ℕ) (fits : at + length p ≤ length b) (l : d ≤ length p) where
+  part-rest : part p d (length p - d) ≡ drop d p
+  unfolding part
+  part-rest = take_all (length p - d) (drop d p) (omega (arith, length-drop d p))
+
+  behind : same (part b (at + d) (length p - d)) (drop d p) ≡ true → (i : ℕ) → d ≤ i → i < length p → get_or b (at + i) 0 ≡ get_or p i 0
+  behind e i k m =
+      let q : part b (at + d) (length p - d) ≡ part p d (length p - d) = same_true _ _ e ∙ sym part-rest in
+      let x : at + d + (i - d) ≡ at + i = omega arith in
+      let y : d + (i - d) ≡ i = omega arith in
+      ap (λ (n : ℕ). get_or b n 0) (sym x) ∙ sym (part_at b (at + d) (length p - d) (i - d) (omega arith))
+      ∙ ap (λ (w : List ℕ). get_or w (i - d) 0) q ∙ part_at p d (length p - d) (i - d) (omega arith) ∙ ap (λ (n : ℕ). get_or p n 0) y
+
+  same-rest : ((i : ℕ) → i < d → get_or b (at + i) 0 ≡ get_or p i 0) → same (part b (at + d) (length p - d)) (drop d p) ≡ same (part b at (length p)) p
+  same-rest h =
+      both_ways _ _
+      (λ e. same-part b at p fits (λ i m. ⊎_elim (λ lt. h i lt) (λ le. behind e i le m) (below_or i d)))
+      (λ e. same-eq _ _ (sym (part-part b at (length p) d (length p - d) fits (omega arith)) ∙ ap (λ (w : List ℕ). part w d (length p - d)) (same_true _ _ e) ∙ part-rest))
+
+  pub same-behind : ((i : ℕ) → i < d → get_or b (at + i) 0 ≡ get_or p i 0)
+      → same (part b (at + d) (length (take (length p - d) (drop d p)))) (take (length p - d) (drop d p)) ≡ same (part b at (length p)) p
+  same-behind h =
+      let t : take (length p - d) (drop d p) ≡ drop d p = take_all (length p - d) (drop d p) (omega (arith, length-drop d p)) in
+      rw (t, length-drop d p) (same-rest h)
 
 -- a test of each element, at each place
 module _ (p : ℕ → Bool) where
@@ -100,12 +138,13 @@ part-zero-each b at n fits h =
     zero-each (part b at n)
     (λ i l. let k : i < n = omega (arith, part_length b at n fits) in part_at b at n i k ∙ h (at + i) (omega arith) (omega arith))
 
--- a number that is zero exactly when each byte is
-pub all-zero : (b : List ℕ) (at n most : ℕ) → at + n ≤ length b
-    → (most ≡ 0 → (j : ℕ) → j < n → get_or b (at + j) 0 ≡ 0) → (((j : ℕ) → j < n → get_or b (at + j) 0 ≡ 0) → most ≡ 0)
-    → eqb most 0 ≡ all_zero (part b at n)
-all-zero b at n most fits f g =
-    let len : length (part b at n) ≡ n = part_length b at n fits in
-    both_ways (eqb most 0) (all_zero (part b at n))
-    (λ e. zero-each (part b at n) (λ i l. let m : i < n = omega arith in part_at b at n i m ∙ f (eqb-true most 0 e) i m))
-    (λ e. eq-eqb most 0 (g (λ j l. sym (part_at b at n j l) ∙ zero-at (part b at n) e j)))
+-- the greatest byte is zero exactly when each is
+greatest-after : (n : ℕ) (xs : List ℕ) → eqb (fold max n xs) 0 ≡ eqb n 0 && all_zero xs
+unfolding all_zero
+greatest-after n [] = search rules
+greatest-after n (x ∷ xs) =
+    let e : eqb (max n x) 0 ≡ eqb n 0 && eqb x 0 = grind (arith, nat_tests) in
+    greatest-after (max n x) xs ∙ ap (λ (b : Bool). b && all_zero xs) e ∙ and_assoc (eqb n 0) (eqb x 0) (all_zero xs)
+
+pub greatest-zero : (xs : List ℕ) → eqb (fold max 0 xs) 0 ≡ all_zero xs
+greatest-zero xs = greatest-after 0 xs

@@ -1,12 +1,14 @@
 -- Big-endian numbers of every width: written and read back, read and written back.
 use mathlib.Core.Path.{◌≡◌, refl, sym, ap, ◌∙◌}
 use mathlib.Core.List.{List, [], ◌∷◌, ◌++◌, append_assoc, append-nil}
-use Prim.Native.Nat.{ℕ, zero, suc, ◌+◌, ◌*◌, ◌/◌, ◌%◌, ◌^◌, ◌≤◌, ◌<◌}
+use Prim.Native.Nat.{ℕ, zero, suc, ◌+◌, ◌-◌, ◌*◌, ◌/◌, ◌%◌, ◌^◌, ◌≤◌, ◌<◌}
 use native.Mathlib.Nat.{pow-suc, div-add-mod, div-lt_iff_lt-mul, div-div-eq-div-mul, add-zero}
 use native.Mathlib.Omega.{arith}
 use lib.ListN.{length, take, drop, get_or, length-append, take-append-drop}
 use lib.Seq.{drop-cons}
 use native.Mathlib.Numerals.{add-one}
+use borrow.Rule.Slice.PartMut.{put_mid}
+use Rattle.std.specs.Int.{w16, w32, from_be_bytes, to_be_bytes}
 use Rattle.octets.specs.Octets.{Bytes, part, big_endian, number, number_after}
 
 -- what stands in front of bytes, what stands behind, and a part
@@ -75,12 +77,6 @@ number-end : (b : List ℕ) (at n : ℕ) → number_after n (part b at 0) ≡ n
 unfolding number_after part
 number-end b at n = refl
 
-pub number-two : (b : List ℕ) (at : ℕ) {x y : ℕ} → at + 2 ≤ length b → x ≡ get_or b at 0 → y ≡ get_or b (at + 1) 0 → 256 * x + y ≡ number (part b at 2)
-unfolding number
-number-two b at {x} {y} fits ex ey =
-    let z : 256 * x + y ≡ 256 * (256 * 0 + get_or b at 0) + get_or b (at + 1) 0 = omega arith in
-    z ∙ sym (number_step b at 0 1 (omega arith) ∙ number_step b (at + 1) (256 * 0 + get_or b at 0) 0 (omega arith) ∙ number-end b (at + 1 + 1) _)
-
 pub number-four : (b : List ℕ) (at : ℕ) {x y z w : ℕ} → at + 4 ≤ length b
     → x ≡ get_or b at 0 → y ≡ get_or b (at + 1) 0 → z ≡ get_or b (at + 2) 0 → w ≡ get_or b (at + 3) 0
     → 256 * (256 * (256 * x + y) + z) + w ≡ number (part b at 4)
@@ -111,3 +107,31 @@ big_endian-four v =
     let two : v / 256 / 256 ≡ v / 65536 = div-div-eq-div-mul v 256 256 in
     let three : v / 65536 / 256 ≡ v / 16777216 = div-div-eq-div-mul v 65536 256 in
     rw (two, three)
+
+-- up to four bytes at the end of an array of zeros, as `from_be_bytes` reads it
+pub read-number : (p : List ℕ) → length p ≤ 4 → from_be_bytes w32 (put_mid (4 - length p) (4 - (4 - length p)) (0 ∷ 0 ∷ 0 ∷ 0 ∷ []) p) ≡ number p
+unfolding number number_after
+read-number [] h = refl
+read-number (a ∷ []) h = omega arith
+read-number (a ∷ b ∷ []) h = omega arith
+read-number (a ∷ b ∷ c ∷ []) h = omega arith
+read-number (a ∷ b ∷ c ∷ d ∷ []) h = omega arith
+read-number (a ∷ b ∷ c ∷ d ∷ e ∷ p) h = absurd (omega arith)
+
+-- the last of the four bytes that `to_be_bytes` gives
+pub last-bytes : (w v : ℕ) → w ≤ 4 → take (4 - (4 - w)) (drop (4 - w) (to_be_bytes w32 v)) ≡ big_endian w v
+unfolding big_endian
+last-bytes zero v h = refl
+last-bytes (suc zero) v h = refl
+last-bytes (suc (suc zero)) v h = refl
+last-bytes (suc (suc (suc zero))) v h = let two : v / 256 / 256 ≡ v / 65536 = div-div-eq-div-mul v 256 256 in rw two
+last-bytes (suc (suc (suc (suc zero)))) v h = sym (big_endian-four v)
+last-bytes (suc (suc (suc (suc (suc w))))) v h = absurd (omega arith)
+
+-- two bytes as `from_be_bytes` reads them
+pub read-two : (p : List ℕ) → length p ≡ 2 → from_be_bytes w16 p ≡ number p
+unfolding number number_after
+read-two [] h = absurd (omega arith)
+read-two (a ∷ []) h = absurd (omega arith)
+read-two (a ∷ b ∷ []) h = omega arith
+read-two (a ∷ b ∷ c ∷ p) h = absurd (omega arith)

@@ -2,12 +2,13 @@
 use mathlib.Core.Path.{◌≡◌, refl, sym, ap, ap₂, ◌∙◌}
 use mathlib.Core.List.{List, [], ◌∷◌, ◌++◌, append_assoc, append-nil}
 use mathlib.Core.Logic.{⊎_elim}
-use Prim.Native.Nat.{ℕ, zero, suc, ◌+◌, ◌-◌, ◌≤◌, ◌<◌}
+use Prim.Native.Nat.{ℕ, suc, ◌+◌, ◌-◌, ◌≤◌, ◌<◌}
 use native.Mathlib.Nat.{add-zero}
 use native.Mathlib.Numerals.{add-one}
 use native.Mathlib.Omega.{arith}
-use lib.ListN.{drop_of_length-le, length, take, drop, get_or, set, replicate, length-append, length-take, length-drop, take-append-drop, length-replicate, get_or-append}
+use lib.ListN.{drop_of_length-le, length, take, drop, get_or, set, length-append, length-take, length-drop, take-append-drop, get_or-append}
 use lib.Seq.{take_all, take-add, drop-drop, take-suc, length-take-le, get_or-take, get_or-drop, get_or-append-add, take_at, drop_at, ext_get_or, set_at, drop-cons, append_snoc, take-append-le, drop-append-le, take-append-add, drop-append-add}
+use borrow.Rule.Slice.PartMut.{put_mid}
 use Rattle.octets.specs.Octets.{part, put}
 use Rattle.octets.proofs.Tests.{below_or}
 
@@ -35,6 +36,16 @@ unfolding part
 part-lent s at n end e h =
     let w : end - at ≡ n = omega arith in
     (ap (λ (m : ℕ). take m (drop at s)) w, rw w (part_length s at n h))
+
+-- the first n elements from `at`, as `s[at..]` lends them
+pub first-lent : (s : List ℕ) (at n : ℕ) → take n (take (length s - at) (drop at s)) ≡ part s at n
+unfolding part
+first-lent s at n = ap (take n) (take_all (length s - at) (drop at s) (omega (arith, length-drop at s)))
+
+-- what a write to `s[at..end]` leaves
+pub put-lent : (s : List ℕ) (at k : ℕ) (vs : List ℕ) → k ≡ length vs → put_mid at k s vs ≡ put s at vs
+unfolding put
+put-lent s at k vs e = ap (λ (l : List ℕ). take at s ++ (vs ++ l)) (drop-drop k at s ∙ ap (λ (n : ℕ). drop (at + n) s) e)
 
 pub put-length : (b : List ℕ) (at : ℕ) (vs : List ℕ) → at + length vs ≤ length b → length (put b at vs) ≡ length b
 unfolding put
@@ -93,31 +104,11 @@ set-put b at v h =
     ap (λ (l : List ℕ). set l at v) (sym (put-none b at))
     ∙ ap (λ (k : ℕ). set (put b at []) k v) (sym (add-zero at)) ∙ put-snoc b at [] v 0 refl (rw add-zero h)
 
-replicate-snoc : (n v : ℕ) → replicate n v ++ (v ∷ []) ≡ replicate (n + 1) v
-replicate-snoc n v = rw add-one (go n)
-  where
-    go : (m : ℕ) → replicate m v ++ (v ∷ []) ≡ replicate (suc m) v
-    go zero = refl
-    go (suc m) = ap (λ (l : List ℕ). v ∷ l) (go m)
-
 -- a turn of a loop that copies, and of one that clears
 pub copy_step : (b : List ℕ) (at : ℕ) (p : List ℕ) (i : ℕ) → i < length p → at + length p ≤ length b → set (put b at (take i p)) (at + i) (get_or p i 0) ≡ put b at (take (i + 1) p)
 copy_step b at p i l h =
     put-snoc b at (take i p) (get_or p i 0) i (length-take-le i p (omega arith)) (omega arith)
     ∙ ap (put b at) (sym (take-suc p i 0 l) ∙ ap (λ (k : ℕ). take k p) (sym (add-one i)))
-
-pub zero-step : (b : List ℕ) (at i : ℕ) → at + i < length b → set (put b at (replicate i 0)) (at + i) 0 ≡ put b at (replicate (i + 1) 0)
-zero-step b at i h = put-snoc b at (replicate i 0) 0 i (length-replicate i 0) h ∙ ap (put b at) (replicate-snoc i 0)
-
--- stores in a row
-pub store_two : (b : List ℕ) (at x y : ℕ) → at + 2 ≤ length b → set (set b at x) (at + 1) y ≡ put b at (x ∷ y ∷ [])
-store_two b at x y h = rw (set-put b at x (omega arith)) (put-snoc b at (x ∷ []) y 1 refl (omega arith))
-
-pub store-four : (b : List ℕ) (at x y z w : ℕ) → at + 4 ≤ length b → set (set (set (set b at x) (at + 1) y) (at + 2) z) (at + 3) w ≡ put b at (x ∷ y ∷ z ∷ w ∷ [])
-store-four b at x y z w h =
-    rw (store_two b at x y (omega arith))
-    (rw (put-snoc b at (x ∷ y ∷ []) z 2 refl (omega arith))
-    (put-snoc b at (x ∷ y ∷ z ∷ []) w 3 refl (omega arith)))
 
 -- a part of a part, and a change of a part put in
 pub part-part : (b : List ℕ) (at n i m : ℕ) → at + n ≤ length b → i + m ≤ n → part (part b at n) i m ≡ part b (at + i) m

@@ -1,6 +1,6 @@
 -- Laws of `specs/Search.antt`: what a loop over the numbers below n has to show.
 use mathlib.Core.Path.{◌≡◌, refl, sym, ap, ◌∙◌}
-use mathlib.Core.Bool.{Bool, true, false, not, ◌&&◌, ◌||◌, and-false, and-true, and_assoc, false≢true, or-true, or-false, or_assoc}
+use mathlib.Core.Bool.{Bool, true, false, not, ◌&&◌, ◌||◌, and-false, false≢true, or-true, or-false, or_assoc}
 use Prim.Native.Nat.{ℕ, zero, suc, ◌+◌, ◌<◌, zero-le, suc-le-suc}
 use native.Mathlib.Nat.{le_of_suc-le-suc, not-suc-le-zero}
 use native.Mathlib.Numerals.{add-one}
@@ -23,20 +23,6 @@ unfolding every
 every-at p zero i h l = absurd (not-suc-le-zero l)
 every-at p (suc n) zero h l = and_left (p zero) (every (λ j. p (suc j)) n) h
 every-at p (suc n) (suc i) h l = every-at (λ j. p (suc j)) n i (and_right (p zero) (every (λ j. p (suc j)) n) h) (le_of_suc-le-suc l)
-
-pub every-none : (p : ℕ → Bool) → true ≡ every p 0
-unfolding every
-every-none p = refl
-
--- one number more
-every-suc : (p : ℕ → Bool) (n : ℕ) → every p (suc n) ≡ (every p n && p n)
-unfolding every
-every-suc p zero = and-true (p zero)
-every-suc p (suc n) =
-    ap (λ (b : Bool). p zero && b) (every-suc (λ i. p (suc i)) n) ∙ sym (and_assoc (p zero) (every (λ i. p (suc i)) n) (p (suc n)))
-
-pub every_more : (p : ℕ → Bool) (n : ℕ) → every p (n + 1) ≡ (every p n && p n)
-every_more p n = ap (every p) (add-one n) ∙ every-suc p n
 
 -- neither of two tests
 neither : (x y : Bool) → not (x || y) ≡ (not x && not y)

@@ -6,16 +6,15 @@ use mathlib.Core.Logic.{⊎_elim}
 use Prim.Native.Nat.{ℕ, suc, ◌+◌, ◌*◌, ◌-◌, ◌≤◌, ◌<◌}
 use native.Mathlib.Numerals.{add-one}
 use native.Mathlib.Omega.{arith}
-use lib.Dec.{eqb}
 use lib.ListN.{length, take, drop, get_or}
 use lib.Seq.{drop-cons}
-use borrow.Author.Tests.{eqb-true, eq-eqb}
+use Rattle.std.specs.Int.{w64, from_le_bytes}
 use Rattle.octets.specs.Octets.{Bytes, part, same}
 use Rattle.octets.specs.Words.{word}
-use Rattle.octets.proofs.Tests.{below_or, both_ways, is_false}
-use Rattle.octets.proofs.Parts.{part_length, part_at, part-part}
+use Rattle.octets.proofs.Tests.{below_or, is_false}
+use Rattle.octets.proofs.Parts.{part_length, part_at, part-all, part-part}
 use Rattle.octets.proofs.Numbers.{bytes-part}
-use Rattle.octets.proofs.Equal.{same_true, same-part}
+use Rattle.octets.proofs.Equal.{same_true}
 
 -- the word of a part, byte by byte
 word-step : (b : List ℕ) (at w : ℕ) → at < length b → word (part b at (suc w)) ≡ get_or b at 0 + 256 * word (part b (at + 1) w)
@@ -39,14 +38,10 @@ word_more b at w fits =
     let fourth = rw four at (word-step b (at + 3) w (omega arith)) in
     omega arith
 
-pub word-four : (b : List ℕ) (at : ℕ) {x y z w : ℕ} → at + 4 ≤ length b
-    → x ≡ get_or b at 0 → y ≡ get_or b (at + 1) 0 → z ≡ get_or b (at + 2) 0 → w ≡ get_or b (at + 3) 0
-    → x + 256 * (y + 256 * (z + 256 * w)) ≡ word (part b at 4)
-word-four b at fits ex ey ez ew = omega (arith, word_more b at 0 fits, word_end b (at + 4))
-
-pub word-eight : (b : List ℕ) (at : ℕ) {low high : ℕ} → at + 8 ≤ length b
-    → low ≡ word (part b at 4) → high ≡ word (part b (at + 4) 4) → low + 4294967296 * high ≡ word (part b at 8)
-word-eight b at fits el eh = omega (arith, word_more b at 0 (omega arith), word_end b (at + 4), word_more b at 4 (omega arith))
+-- as `from_le_bytes` reads it
+pub read_word : (xs : List ℕ) → length xs ≡ 8 → from_le_bytes w64 xs ≡ word xs
+read_word xs e =
+    omega (arith, ap word (part-all xs 8 e), word_more xs 0 4 (omega arith), word_more xs 4 0 (omega arith), word_end xs 8)
 
 -- as many bytes that have the same word are the same
 word_same : (xs ys : List ℕ) → Bytes xs → Bytes ys → length xs ≡ length ys → word xs ≡ word ys → xs ≡ ys
@@ -85,11 +80,3 @@ module _ (s : List ℕ) (at : ℕ) (p : List ℕ) (i : ℕ) {v w : ℕ} (ev : v 
 
   pub words-differ : (n : ℕ) → at + n ≤ length s → i + 8 ≤ n → (v ≡ w → ⊥) → same (part s at n) p ≡ false
   words-differ n fits l h = is_false (same (part s at n) p) (λ e. h (words_same n fits l e))
-
-  -- the last word, where all bytes before it agree
-  pub last_word : Bytes s → Bytes p → at + length p ≤ length s → i + 8 ≡ length p → ((j : ℕ) → j < i → get_or s (at + j) 0 ≡ get_or p j 0)
-      → eqb v w ≡ same (part s at (length p)) p
-  last_word bs bp fits l h =
-      both_ways (eqb v w) (same (part s at (length p)) p)
-      (λ e. same-part s at p fits (λ j k. below-eight _ i (words-agree bs bp (omega arith) (omega arith) (eqb-true v w e)) h j (omega arith)))
-      (λ e. eq-eqb v w (words_same (length p) fits (omega arith) e))

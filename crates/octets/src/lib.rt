@@ -1,59 +1,28 @@
 // Bytes at a place of a slice: read, written and compared. Each function that writes gives the place behind what it wrote.
 #![tactic(auto)]
 
-ghost use Rattle.std.specs.Prelude.{◌≡◌, ◌+◌, ◌≤◌, ◌<◌, max, length, replicate};
+ghost use Rattle.std.specs.Prelude.{◌≡◌, ◌+◌, ◌≤◌, ◌<◌, length, replicate, max};
+ghost use Rattle.std.specs.List.{fold};
 ghost use Rattle.octets.specs.Octets.{part, put, big_endian, number, all_zero, same};
 ghost use Rattle.octets.specs.Words.{word};
 
-// A byte as a wider number, so that callers prove no cast.
-fn wide(byte: u8) -> u32
-    ensures { (result ≡ byte) × (result < 256) }
+// The big-endian number in the WIDTH bytes from `at`.
+pub fn number_at<const WIDTH: usize>(s: &[u8], at: usize) -> u32
+    requires { (WIDTH ≤ 4) × (at + WIDTH ≤ length s.now) }
+    ensures { result ≡ number (part s.now at WIDTH) }
 {
-    byte as u32
+    let mut bytes = [0; 4];
+    bytes[4 - WIDTH..].copy_from_slice(&s[at..at + WIDTH]);
+    u32::from_be_bytes(bytes)
 }
 
-// The big-endian number in the two bytes from `at`.
-pub fn u16_at(s: &[u8], at: usize) -> u16
-    requires { at + 2 ≤ length s.now }
-    ensures { result ≡ number (part s.now at 2) }
+// Writes the lowest WIDTH bytes of v from `at`.
+pub fn put_number<const WIDTH: usize>(s: &mut [u8], at: usize, v: u32) -> usize
+    requires { (WIDTH ≤ 4) × (at + WIDTH ≤ length s.old) }
+    ensures { (result ≡ at + WIDTH) × (s.new ≡ put s.old at (big_endian WIDTH v)) }
 {
-    let high = wide(s[at]);
-    let low = wide(s[at + 1]);
-    (256 * high + low) as u16
-}
-
-// The big-endian number in the four bytes from `at`.
-pub fn u32_at(s: &[u8], at: usize) -> u32
-    requires { at + 4 ≤ length s.now }
-    ensures { result ≡ number (part s.now at 4) }
-{
-    let a = wide(s[at]);
-    let b = wide(s[at + 1]);
-    let c = wide(s[at + 2]);
-    let d = wide(s[at + 3]);
-    256 * (256 * (256 * a + b) + c) + d
-}
-
-// Writes the two bytes of v from `at`.
-pub fn put_u16(s: &mut [u8], at: usize, v: u16) -> usize
-    requires { at + 2 ≤ length s.old }
-    ensures { (result ≡ at + 2) × (s.new ≡ put s.old at (big_endian 2 v)) }
-{
-    s[at] = (v / 256 % 256) as u8;
-    s[at + 1] = (v % 256) as u8;
-    at + 2
-}
-
-// Writes the four bytes of v from `at`.
-pub fn put_u32(s: &mut [u8], at: usize, v: u32) -> usize
-    requires { at + 4 ≤ length s.old }
-    ensures { (result ≡ at + 4) × (s.new ≡ put s.old at (big_endian 4 v)) }
-{
-    s[at] = (v / 16777216 % 256) as u8;
-    s[at + 1] = (v / 65536 % 256) as u8;
-    s[at + 2] = (v / 256 % 256) as u8;
-    s[at + 3] = (v % 256) as u8;
-    at + 4
+    let bytes = v.to_be_bytes();
+    put_part(s, at, &bytes[4 - WIDTH..])
 }
 
 // Writes n zeros from `at`.
@@ -61,11 +30,7 @@ pub fn put_zeros(s: &mut [u8], at: usize, n: usize) -> usize
     requires { at + n ≤ length s.old }
     ensures { (result ≡ at + n) × (s.new ≡ put s.old at (replicate n 0)) }
 {
-    let mut i = 0;
-    while i < n {
-        s[at + i] = 0;
-        i += 1;
-    }
+    s[at..at + n].fill(0);
     at + n
 }
 
@@ -74,24 +39,9 @@ pub fn put_part(s: &mut [u8], at: usize, p: &[u8]) -> usize
     requires { at + length p.now ≤ length s.old }
     ensures { (result ≡ at + length p.now) × (s.new ≡ put s.old at p.now) }
 {
-    let mut i = 0;
-    while i < p.len() {
-        s[at + i] = p[i];
-        i += 1;
-    }
-    at + p.len()
-}
-
-// The little-endian number in the four bytes from `at`.
-fn half_word_at(s: &[u8], at: usize) -> u32
-    requires { at + 4 ≤ length s.now }
-    ensures { result ≡ word (part s.now at 4) }
-{
-    let a = wide(s[at]);
-    let b = wide(s[at + 1]);
-    let c = wide(s[at + 2]);
-    let d = wide(s[at + 3]);
-    a + 256 * (b + 256 * (c + 256 * d))
+    let end = at + p.len();
+    s[at..end].copy_from_slice(p);
+    end
 }
 
 // The word of the eight bytes from `at`: the little-endian number, which the machine reads in one load.
@@ -99,82 +49,58 @@ pub fn word_at(s: &[u8], at: usize) -> u64
     requires { at + 8 ≤ length s.now }
     ensures { result ≡ word (part s.now at 8) }
 {
-    let low = half_word_at(s, at) as u64;
-    let high = half_word_at(s, at + 4) as u64;
-    low + 4294967296 * high
+    u64::from_le_bytes(*s[at..].first_chunk().unwrap())
 }
 
-// Fewer than eight bytes, one by one.
-fn same_few_at(s: &[u8], at: usize, p: &[u8]) -> bool
+// Whether the bytes from `at` are those of p, by the library's comparison of slices.
+fn same_part(s: &[u8], at: usize, p: &[u8]) -> bool
     requires { at + length p.now ≤ length s.now }
     ensures { result ≡ same (part s.now at (length p.now)) p.now }
 {
-    let mut i = 0;
-    while i < p.len() {
-        if s[at + i] != p[i] {
-            return false;
-        }
-        i += 1;
-    }
-    true
+    &s[at..at + p.len()] == p
 }
 
-// Whether the bytes from `at` are those of p: by words of eight bytes from the front, where names differ, up to the first word that
-// differs. The last word may overlap the one before it.
+// The same, by words of eight bytes from the front, where names differ, up to the first word that differs: the library's
+// comparison alone takes twice as long there.
 pub fn same_at(s: &[u8], at: usize, p: &[u8]) -> bool
     requires { at + length p.now ≤ length s.now }
     ensures { result ≡ same (part s.now at (length p.now)) p.now }
 {
-    let n = p.len();
-    if n < 8 {
-        return same_few_at(s, at, p);
-    }
-    let last = n - 8;
-    let mut i = 0;
-    while i < last {
-        if word_at(s, at + i) != word_at(p, i) {
+    let words = p.len() / 8;
+    for i in 0..words {
+        let passed = 8 * i;
+        if word_at(s, at + passed) != word_at(p, passed) {
             return false;
         }
-        i += 8;
     }
-    word_at(s, at + last) == word_at(p, last)
+    let passed = 8 * words;
+    same_part(s, at + passed, &p[passed..])
 }
 
 // The same of 64 bytes, as a key has: from the last word down to the first, since keys may begin alike.
-pub fn same_64_at(s: &[u8], at: usize, p: &[u8]) -> bool
-    requires { (at + 64 ≤ length s.now) × (length p.now ≡ 64) }
+pub fn same_64_at(s: &[u8], at: usize, p: &[u8; 64]) -> bool
+    requires { at + 64 ≤ length s.now }
     ensures { result ≡ same (part s.now at 64) p.now }
 {
-    let mut i = 64;
-    while 0 < i {
-        i -= 8;
-        if word_at(s, at + i) != word_at(p, i) {
+    for i in (0..8).rev() {
+        if word_at(s, at + 8 * i) != word_at(p, 8 * i) {
             return false;
         }
     }
     true
 }
 
-// The greater of two bytes, by a function of its own, since a loop over it goes by vectors.
-pub fn greater(a: u8, b: u8) -> u8
-    ensures { result ≡ max a b }
+// The greatest of the bytes, or 0. It reads them all, since a loop that ends early can't go by vectors.
+fn greatest(s: &[u8]) -> u8
+    ensures { result ≡ fold max 0 s.now }
 {
-    if a < b {
-        return b;
-    }
-    a
+    s.iter().fold(0, |most, b| most.max(*b))
 }
 
-// Whether the n bytes from `at` are zero. It looks for the greatest of them, since a loop that ends early can't go by vectors.
+// Whether the n bytes from `at` are zero.
 pub fn zeros_at(s: &[u8], at: usize, n: usize) -> bool
     requires { at + n ≤ length s.now }
     ensures { result ≡ all_zero (part s.now at n) }
 {
-    let mut most: u8 = 0;
-    let mut i = 0;
-    while i < n {
-        most = greater(most, s[at + i]);
-        i += 1;
-    }
-    most == 0
+    greatest(&s[at..at + n]) == 0
 }

@@ -9,6 +9,7 @@ use native.Mathlib.Omega.{arith}
 use lib.Dec.{eqb}
 use lib.ListN.{length, get_or}
 use borrow.Author.Tests.{eq-eqb, ne_eqb, eqb-true}
+use Rattle.std.specs.List.{range_with_len}
 use Rattle.octets.specs.Octets.{all, part, all_zero}
 use Rattle.octets.specs.Search.{every}
 use Rattle.octets.proofs.Tests.{below_or, both_ways, and_left, and_right, and_both, or_cases}
@@ -20,6 +21,22 @@ use Rattle.host_name.specs.Scan.{name_byte}
 use Rattle.padded_name.specs.Neighbours.{neighbours, Short}
 use Rattle.host_name.proofs.Labels.{none-refused}
 use Rattle.host_name.proofs.ShortNames.{Kind, is_letter, is_hyphen, is_dot, kind, dots_apart, apart-at, apart-last, apart-all, short-formed}
+
+-- a test of the numbers below a count, as one over their list
+every-same : (p q : ℕ → Bool) (n : ℕ) → ((i : ℕ) → p i ≡ q i) → every p n ≡ every q n
+unfolding every
+every-same p q zero h = refl
+every-same p q (suc n) h = ap₂ ◌&&◌ (h zero) (every-same (λ i. p (suc i)) (λ i. q (suc i)) n (λ i. h (suc i)))
+
+range-from : (p : ℕ → Bool) (a n : ℕ) → all p (range_with_len a n) ≡ every (λ i. p (a + i)) n
+unfolding every
+range-from p a zero = refl
+range-from p a (suc n) =
+    ap₂ ◌&&◌ (ap p (omega arith))
+    (range-from p (a + 1) n ∙ every-same (λ i. p (a + 1 + i)) (λ i. p (a + suc i)) n (λ i. ap p (omega arith)))
+
+pub all-range : (p : ℕ → Bool) (n : ℕ) → all p (range_with_len 0 n) ≡ every p n
+all-range p n = range-from p 0 n ∙ every-same (λ i. p (0 + i)) p n (λ i. ap p (omega arith))
 
 -- what two neighbours say of each other, and what lets them stand so
 record Pair (x y : ℕ) : Type 0 where

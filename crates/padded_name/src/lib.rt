@@ -3,7 +3,7 @@
 // dot.
 #![tactic(auto)]
 
-ghost use Rattle.std.specs.Prelude.{◌≡◌, ◌&&◌, ◌+◌, ◌-◌, ◌<◌, length, get_or};
+ghost use Rattle.std.specs.Prelude.{◌≡◌, ◌&&◌, ◌+◌, ◌-◌, ◌<◌, get_or};
 ghost use Rattle.octets.specs.Octets.{part, all_zero};
 ghost use Rattle.octets.specs.Search.{every};
 ghost use Rattle.host_name.specs.Name.{well_formed};
@@ -14,26 +14,21 @@ ghost use Rattle.padded_name.specs.Neighbours.{neighbours, Short};
 fn neighbours(x: u8, y: u8) -> bool
     ensures { result ≡ neighbours x y }
 {
-    (host_name::name_byte(x) | (x == 0)) & (octets::greater(x, y) != b'.') & ((x != 0) | (y == 0))
+    (host_name::name_byte(x) | (x == 0)) & (x.max(y) != b'.') & ((x != 0) | (y == 0))
 }
 
-// Whether behind each of the first m bytes its neighbour may stand.
-fn all_neighbours(padded: &[u8], m: usize) -> bool
-    requires { m < length padded.now }
-    ensures { result ≡ every (λ i. neighbours (get_or padded.now i 0) (get_or padded.now (i + 1) 0)) m }
+// Whether behind each of the first M bytes its neighbour may stand. It reads them all, since a loop that ends early can't go by
+// vectors.
+fn all_neighbours<const M: usize>(padded: &[u8; 256]) -> bool
+    requires { M < 256 }
+    ensures { result ≡ every (λ i. neighbours (get_or padded.now i 0) (get_or padded.now (i + 1) 0)) M }
 {
-    let mut all = true;
-    let mut i = 0;
-    while i < m {
-        all = all & neighbours(padded[i], padded[i + 1]);
-        i += 1;
-    }
-    all
+    (0..M).fold(true, |all, i| all & neighbours(padded[i], padded[i + 1]))
 }
 
-// A name of fewer than m bytes, and the zeros behind it.
-fn short_formed(padded: &[u8], n: usize, m: usize) -> bool
-    requires { Short padded.now n m }
+// A name of fewer than M bytes, and the zeros behind it.
+fn short_formed<const M: usize>(padded: &[u8; 256], n: usize) -> bool
+    requires { Short padded.now n M }
     ensures { result ≡ (well_formed (part padded.now 0 n) && all_zero (part padded.now n (256 - n))) }
 {
     if padded[0] < b'0' {
@@ -45,25 +40,25 @@ fn short_formed(padded: &[u8], n: usize, m: usize) -> bool
     if padded[n] != 0 {
         return false;
     }
-    if !all_neighbours(padded, m) {
+    if !all_neighbours::<M>(padded) {
         return false;
     }
-    octets::zeros_at(padded, m, 256 - m)
+    octets::zeros_at(padded, M, 256 - M)
 }
 
 // Whether the first n bytes are a name, and only zeros stand behind it.
-pub fn well_formed(padded: &[u8], n: usize) -> bool
-    requires { (length padded.now ≡ 256) × (n < 256) }
+pub fn well_formed(padded: &[u8; 256], n: usize) -> bool
+    requires { n < 256 }
     ensures { result ≡ (well_formed (part padded.now 0 n) && all_zero (part padded.now n (256 - n))) }
 {
     if n == 0 {
         return false;
     }
     if n < 32 {
-        return short_formed(padded, n, 32);
+        return short_formed::<32>(padded, n);
     }
     if n < 64 {
-        return short_formed(padded, n, 64);
+        return short_formed::<64>(padded, n);
     }
     if !host_name::well_formed(&padded[0..n]) {
         return false;

@@ -1,191 +1,133 @@
-// What the store answers: an enum for each kind of call, and the papers' numbers and alerts for every case.
+// What the store answers: the refusals and a type for what each kind of call gives, with the papers' numbers and alerts for every case.
 #![tactic(auto)]
 
-ghost use Rattle.std.specs.Prelude.{◌≡◌};
-ghost use Rattle.tack_extension.specs.Answers.{alert_of, alert_of_two, bad_certificate};
-ghost use Rattle.pin_answers.specs.Numbers.{refusal_number, verdict_number, judgement_number, deletion_number, starting_number};
+ghost use Rattle.std.specs.Prelude.{◌≡◌, MatchResult};
+ghost use Rattle.tack_extension.specs.Answers.{alert_of, alert_of_two};
+ghost use Rattle.pin_answers.specs.Numbers.{refusal_number, verdict_number, done_number};
 
 // The refusals, by their numbers. 17 is edition one's alone, 24 edition two's.
-#[derive(Clone, Copy)]
+#[derive(Clone, Copy, Debug, PartialEq, Eq)]
 pub enum Refusal {
-    AreaLength,
-    Damaged,
-    NameMalformed,
-    ClockAboveLimit,
-    ClockBeforeLatest,
-    HandshakeUnfinished,
-    ExtensionMalformed,
-    BreakIncorrect,
-    KeyNoPoint,
-    GenerationBelowOwn,
-    TargetUnequal,
-    SignatureIncorrect,
-    Revoked,
-    Expired,
-    OneKeyTwice,
-    OtherEdition,
+    AreaLength = 10,
+    Damaged = 11,
+    NameMalformed = 12,
+    ClockAboveLimit = 13,
+    ClockBeforeLatest = 14,
+    HandshakeUnfinished = 15,
+    ExtensionMalformed = 16,
+    BreakIncorrect = 17,
+    KeyNoPoint = 18,
+    GenerationBelowOwn = 19,
+    TargetUnequal = 20,
+    SignatureIncorrect = 21,
+    Revoked = 22,
+    Expired = 23,
+    OneKeyTwice = 24,
+    OtherEdition = 27,
 }
 
-// What a test of a call's input gives.
-#[derive(Clone, Copy)]
-pub enum Checked {
-    Passed,
-    Refused(Refusal),
-}
-
-#[derive(Clone, Copy)]
+#[derive(Clone, Copy, Debug, PartialEq, Eq)]
 pub enum Verdict {
-    Unpinned,
-    Confirmed,
-    Contradicted,
+    Unpinned = 0,
+    Confirmed = 1,
+    Contradicted = 2,
 }
 
-#[derive(Clone, Copy)]
-pub enum Judgement {
-    Judged { verdict: Verdict, no_room: bool },
-    Refused(Refusal),
+// A connection that was judged. `no_room`: it wanted a record and there was no room for it.
+#[derive(Clone, Copy, Debug, PartialEq, Eq)]
+pub struct Judged {
+    pub verdict: Verdict,
+    pub no_room: bool,
 }
 
-#[derive(Clone, Copy)]
+pub type Judgement = Result<Judged, Refusal>;
+
+#[derive(Clone, Copy, Debug, PartialEq, Eq)]
 pub enum Deletion {
-    Deleted,
-    NotRecorded,
-    Refused(Refusal),
+    Deleted = 3,
+    NotRecorded = 4,
 }
 
-#[derive(Clone, Copy)]
-pub enum Inspection {
-    WithoutEnd {
-        floor: u8,
-        initial: u32,
-    },
-    WithEnd {
-        floor: u8,
-        initial: u32,
-        end: u32,
-        minutes_left: i64,
-    },
-    NotRecorded,
-    Refused(Refusal),
+// The end of a pin, and the minutes from the clock to it: negative where it lies before.
+#[derive(Clone, Copy, Debug, PartialEq, Eq)]
+pub struct End {
+    pub end: u32,
+    pub minutes_left: i64,
 }
 
-#[derive(Clone, Copy)]
-pub enum Starting {
-    Started,
-    Refused(Refusal),
+// What a name's record says.
+#[derive(Clone, Copy, Debug, PartialEq, Eq)]
+pub struct Inspection {
+    pub floor: u8,
+    pub initial: u32,
+    pub end: Option<End>,
 }
 
-pub fn refusal_number(r: Refusal) -> u8
-    ensures { result ≡ refusal_number r }
-{
-    match r {
-        Refusal::AreaLength => 10,
-        Refusal::Damaged => 11,
-        Refusal::NameMalformed => 12,
-        Refusal::ClockAboveLimit => 13,
-        Refusal::ClockBeforeLatest => 14,
-        Refusal::HandshakeUnfinished => 15,
-        Refusal::ExtensionMalformed => 16,
-        Refusal::BreakIncorrect => 17,
-        Refusal::KeyNoPoint => 18,
-        Refusal::GenerationBelowOwn => 19,
-        Refusal::TargetUnequal => 20,
-        Refusal::SignatureIncorrect => 21,
-        Refusal::Revoked => 22,
-        Refusal::Expired => 23,
-        Refusal::OneKeyTwice => 24,
-        Refusal::OtherEdition => 27,
+impl From<Refusal> for u8 {
+    ghost from_gives = { λ r n. n ≡ refusal_number r };
+
+    fn from(refusal: Refusal) -> u8 {
+        refusal as u8
     }
 }
 
-pub fn verdict_number(v: Verdict) -> u8
-    ensures { result ≡ verdict_number v }
-{
-    match v {
-        Verdict::Unpinned => 0,
-        Verdict::Confirmed => 1,
-        Verdict::Contradicted => 2,
+impl From<Verdict> for u8 {
+    ghost from_gives = { λ v n. n ≡ verdict_number v };
+
+    fn from(verdict: Verdict) -> u8 {
+        verdict as u8
     }
 }
 
-pub fn judgement_number(j: Judgement) -> u8
-    ensures { result ≡ judgement_number j }
-{
-    match j {
-        Judgement::Judged {
-            verdict,
-            no_room: _,
-        } => verdict_number(verdict),
-        Judgement::Refused(r) => refusal_number(r),
+impl From<Judged> for u8 {
+    ghost from_gives = { λ j n. n ≡ verdict_number j.verdict };
+
+    fn from(judged: Judged) -> u8 {
+        u8::from(judged.verdict)
     }
 }
 
-pub fn deletion_number(d: Deletion) -> u8
-    ensures { result ≡ deletion_number d }
-{
-    match d {
-        Deletion::Deleted => 3,
-        Deletion::NotRecorded => 4,
-        Deletion::Refused(r) => refusal_number(r),
+impl From<Deletion> for u8 {
+    ghost from_gives = { λ d n. n ≡ done_number d };
+
+    fn from(deletion: Deletion) -> u8 {
+        deletion as u8
     }
 }
 
-pub fn starting_number(s: Starting) -> u8
-    ensures { result ≡ starting_number s }
+// The number of an answer: that of what was done, or of the refusal.
+pub fn number_of<T: Into<u8>>(answer: Result<T, Refusal>) -> u8
+    ensures { MatchResult answer (λ done. T.converts done result) (λ r. result ≡ refusal_number r) }
 {
-    match s {
-        Starting::Started => 7,
-        Starting::Refused(r) => refusal_number(r),
+    match answer {
+        Ok(done) => done.into(),
+        Err(refusal) => u8::from(refusal),
     }
 }
 
 // The TLS alert of a number; 0 where there is none.
+#[tactic(auto, using(std::proofs::lemmas::Bool::Decides::nat_tests), unfolding(tack_extension::specs::Answers::alert_of))]
 pub fn alert_of(number: u8) -> u8
     ensures { result ≡ alert_of number }
 {
-    if number == 2 {
-        return 49;
+    match number {
+        2 => 49,
+        16 | 19 => 50,
+        17 | 18 | 21 => 51,
+        20 => 47,
+        22 => 44,
+        23 => 45,
+        _ => 0,
     }
-    if number == 16 {
-        return 50;
-    }
-    if number == 17 {
-        return 51;
-    }
-    if number == 18 {
-        return 51;
-    }
-    if number == 19 {
-        return 50;
-    }
-    if number == 20 {
-        return 47;
-    }
-    if number == 21 {
-        return 51;
-    }
-    if number == 22 {
-        return 44;
-    }
-    if number == 23 {
-        return 45;
-    }
-    0
-}
-
-// Whether edition two answers the number with alert 42.
-fn bad_certificate(number: u8) -> bool
-    ensures { result ≡ bad_certificate number }
-{
-    (number == 16) | ((18 <= number) & (number <= 21)) | (number == 24)
 }
 
 // The TLS alert of a number in edition two.
+#[tactic(auto, using(std::proofs::lemmas::Bool::Decides::nat_tests), unfolding(tack_extension::specs::Answers::alert_of_two))]
 pub fn alert_of_two(number: u8) -> u8
     ensures { result ≡ alert_of_two number }
 {
-    if bad_certificate(number) {
-        return 42;
+    match number {
+        16 | 18..=21 | 24 => 42,
+        _ => alert_of(number),
     }
-    alert_of(number)
 }

@@ -6,9 +6,11 @@ use mathlib.Core.Option.{Option, none, some}
 use Prim.Native.Nat.{ℕ, ◌≤◌, ◌<◌}
 use native.Mathlib.Omega.{arith}
 use lib.ListN.{length, get_or, set}
+use mathlib.Core.Logic.{⊎_elim}
+use Rattle.std.proofs.lemmas.List.{get_or_past}
 use lib.Seq.{set-set}
 use Rattle.octets.specs.Octets.{any}
-use Rattle.octets.proofs.Tests.{is_false, and_right}
+use Rattle.octets.proofs.Tests.{by_test, below_or, is_false, and_right}
 use Rattle.octets.proofs.Equal.{same_true, same-eq}
 use Rattle.host_name.specs.Name.{well_formed}
 use Rattle.host_name.proofs.Names.{name-length}
@@ -48,12 +50,12 @@ key-held key (some k) e = same_true k.key key e
 
 -- a slot that passes the test for a name has its record
 module _ (name : List ℕ) (names : List (Option NameRecord)) (n : ℕ) where
-  pub name-held : n < 128 → holds (name_is name) (get_or names n none) ≡ true → FoundAt (λ r. r.name) name names 128 n
-  name-held l e =
+  pub name-held : length names ≡ 128 → holds (name_is name) (get_or names n none) ≡ true → FoundAt (λ r. r.name) name names 128 n
+  name-held slots e =
       let used-slot : is_free (get_or names n none) ≡ false = holds-used (name_is name) (get_or names n none) e in
       let u : Used (get_or names n none) = is-used (get_or names n none) used-slot in
       record {
-        below = l;
+        below = ⊎_elim (λ l. l) (λ m. absurd (false≢true (sym (ap (holds (name_is name)) (get_or_past names n none (omega arith))) ∙ e))) (below_or n 128);
         what = u.what;
         there = u.there;
         its = same_true u.what.name name (sym (ap (holds (name_is name)) u.there) ∙ e);
@@ -73,13 +75,11 @@ unrecorded-fresh name key {b} {t} h n l e =
 -- a record in slot n, where key slot k has the key
 module _ (name tack : List ℕ) (clock : ℕ) (t : Table) {d : List ℕ} (g : Holds d (with_keys (keyed_for tack t.keys) t)) (n k : ℕ)
     (its : holds (key_is (public_key tack)) (get_or (keyed_for tack t.keys) k none) ≡ true) where
-  pub slots-ready : n < 128 → k < 64 → well_formed name ≡ true → Fresh t.two name (public_key tack) n t.names
-      → Stored d × (n < 128) × (k < 64) × (is_free (get_or (decode d).keys k none) ≡ false) × (length name ≤ 253)
+  pub slots-ready : well_formed name ≡ true → Fresh t.two name (public_key tack) n t.names
+      → Stored d × (is_free (get_or (decode d).keys k none) ≡ false) × (length name ≤ 253)
       × Fresh (decode d).two name (key_at (get_or (decode d).keys k none)) n (decode d).names
-  slots-ready n-below k-below formed fresh = (
+  slots-ready formed fresh = (
     holds-stored g,
-    n-below,
-    k-below,
     ap (λ (u : Table). is_free (get_or u.keys k none)) (holds-decode g) ∙ holds-used (key_is (public_key tack)) (get_or (keyed_for tack t.keys) k none) its,
     (name-length name formed).1,
     subst (λ (u : Table). Fresh u.two name (key_at (get_or u.keys k none)) n u.names) (sym (holds-decode g))
@@ -105,8 +105,9 @@ module _ (name tack : List ℕ) (clock : ℕ) (t : Table) (sound : sound_table (
     left : (without name t).keys ≡ t.keys
     left = keys-left name tack clock t sound unrecorded
 
-    pub add-refused : has_free t.names ≡ false → ⊥
-    add-refused full = true≢false (sym room ∙ sym (room-full name tack clock t sound unrecorded full))
+    pub add-free : has_free t.names ≡ true
+    add-free =
+        by_test (has_free t.names) (λ e. e) (λ full. absurd (true≢false (sym room ∙ sym (room-full name tack clock t sound unrecorded full))))
 
     pub add-room : key_room tack t ≡ true
     add-room = ap (λ (keys : List (Option KeyRecord)). key_recorded (public_key tack) t || has_free keys) (sym left) ∙ left-room

@@ -1,9 +1,9 @@
 -- The slot of the tack's key, and the area with its record: the old one, or one made in the lowest free slot.
 use mathlib.Core.Path.{◌≡◌, sym, ◌∙◌, ap, ap₂}
-use mathlib.Core.Bool.{Bool, true, false, cond, ◌||◌, true≢false}
+use mathlib.Core.Bool.{Bool, true, false, cond, ◌||◌}
 use mathlib.Core.List.{List}
 use mathlib.Core.Option.{Option, none, some}
-use Prim.Native.Nat.{ℕ, ◌<◌}
+use Prim.Native.Nat.{ℕ}
 use native.Mathlib.Omega.{arith}
 use lib.ListN.{get_or, set}
 use lib.Seq.{get_or-set_same}
@@ -23,7 +23,7 @@ use Rattle.pin_steps.proofs.Tacks.{with_keys_lem}
 module _ (tack : List ℕ) {b : List ℕ} {t : Table} (h : Holds b t) where
   -- slot k has the key among the slots with it, which the area holds
   abbrev pub Taken : ℕ → List ℕ → Type 0
-  Taken k d = (k < 64) × (holds (key_is (public_key tack)) (get_or (keyed_for tack t.keys) k none) ≡ true) × Holds d (with_keys (keyed_for tack t.keys) t)
+  Taken k d = (holds (key_is (public_key tack)) (get_or (keyed_for tack t.keys) k none) ≡ true) × Holds d (with_keys (keyed_for tack t.keys) t)
 
   taken_at_lem : {keys : List (Option KeyRecord)} (k : ℕ) (x : KeyRecord) → keys ≡ keyed_for tack t.keys → get_or keys k none ≡ some x → x.key ≡ public_key tack
       → holds (key_is (public_key tack)) (get_or (keyed_for tack t.keys) k none) ≡ true
@@ -37,7 +37,7 @@ module _ (tack : List ℕ) {b : List ℕ} {t : Table} (h : Holds b t) where
   pub key-kept : (k : ℕ) → FoundAt (λ x. x.key) (public_key tack) t.keys 64 k → Taken k b
   key-kept k x =
       let keys : t.keys ≡ keyed_for tack t.keys = by-record true x.recorded in
-      (x.below, taken_at_lem k x.what keys x.there x.its, with_keys_lem keys h)
+      (taken_at_lem k x.what keys x.there x.its, with_keys_lem keys h)
 
   module _ (unrecorded : any (key_is (public_key tack)) (used t.keys) ≡ false) where
     pub key-made : (k : ℕ) {d key : List ℕ} {floor : ℕ} → FreeAt t.keys 64 k → key ≡ public_key tack → floor ≡ min_generation tack
@@ -46,10 +46,9 @@ module _ (tack : List ℕ) {b : List ℕ} {t : Table} (h : Holds b t) where
         let new : key_record key floor ≡ new_key tack = ap₂ key_record its least in
         let keys : set t.keys k (some (key_record key floor)) ≡ keyed_for tack t.keys =
         ap (λ (x : KeyRecord). set t.keys k (some x)) new ∙ sym (f.lowest (new_key tack)) ∙ by-record false unrecorded in (
-          f.below,
           taken_at_lem k (key_record key floor) keys (get_or-set_same t.keys k (some (key_record key floor)) none (omega (arith, h.fits.key_slots, f.below))) its,
           with_keys_lem keys g,
         )
 
-    pub key-refused : has_free t.keys ≡ false → key_room tack t ≡ true → ⊥
-    key-refused full room = true≢false (sym room ∙ ap₂ ◌||◌ unrecorded full)
+    pub room-free : key_room tack t ≡ true → has_free t.keys ≡ true
+    room-free room = sym (ap (λ (b : Bool). b || has_free t.keys) unrecorded) ∙ room

@@ -5,12 +5,19 @@ use mathlib.Core.List.{List}
 use mathlib.Core.Option.{Option, none, some}
 use Prim.Native.Nat.{ℕ, ◌≤◌, ◌<◌}
 use native.Mathlib.Omega.{arith}
-use lib.ListN.{get_or, set, length-set}
+use lib.ListN.{length, get_or, set, length-set}
 use lib.Seq.{get_or-set_same, get_or-set_other}
+use Rattle.std.specs.Prelude as std
+use lib.Dec.{eqb}
+use borrow.Author.Tests.{eqb-true, eqb-false}
 use Rattle.octets.specs.Octets.{any}
+use Rattle.octets.specs.Search.{every}
+use Rattle.octets.proofs.Tests.{by_test}
+use Rattle.pin_table.proofs.Ranges.{every-same}
+use Rattle.pin_records.proofs.AnySlot.{any-slot, every-not}
 use Rattle.tack_extension.specs.Tack.{public_key}
 use Rattle.pin_model.specs.Slots.{used, has_free}
-use Rattle.pin_model.specs.Table.{KeyRecord, NameRecord, Table, pinned_to, name_recorded, key_recorded, without, settled_at}
+use Rattle.pin_model.specs.Table.{KeyRecord, NameRecord, Table, key_is, pinned_to, name_recorded, key_recorded, without, settled_at}
 use Rattle.pin_model.specs.Layout.{key_at}
 use Rattle.pin_model.specs.SoundTable.{sound_table}
 use Rattle.pin_model.specs.Fits.{holds}
@@ -22,12 +29,13 @@ use Rattle.pin_model.proofs.SoundFacts.{SoundFacts, sound-facts, name-once}
 use Rattle.pin_model.proofs.SoundRemoval.{without-unrecorded}
 use Rattle.pin_model.proofs.Room.{last_on_key, room_for-slots}
 use Rattle.pin_records.specs.Holds.{Holds}
-use Rattle.pin_records.specs.Find.{is_free}
+use Rattle.pin_records.specs.Find.{is_free, first_slot, slot_found}
 use Rattle.pin_records.specs.Read.{pinned_key}
 use Rattle.pin_records.proofs.Placed.{Used, is-used}
-use Rattle.pin_records.proofs.Found.{FoundAt, found-freed, found-any}
+use Rattle.pin_records.proofs.Found.{FoundAt, found-free, slots-full, found-freed, found-any}
 use Rattle.pin_records.proofs.PinnedKeys.{pinned-place}
 use Rattle.pin_steps.specs.Steps.{key_of_name}
+use Rattle.pin_steps.proofs.Tacks.{tack-key-at, tack-key-absent}
 
 -- key slot k has the key that the record of a name slot is pinned to
 pub record PinAt (keys : List (Option KeyRecord)) (x : Option NameRecord) (k : ℕ) : Type 0 where
@@ -46,46 +54,42 @@ pin_at {b} {t} h n k u e =
 abbrev pub on_key : Table → ℕ → NameRecord → Bool
 on_key t k = pinned_to (key_at (get_or t.keys k none))
 
--- none of the first m name slots but `own` is pinned to it
-abbrev pub Alone : Table → ℕ → ℕ → ℕ → Type 0
-Alone t own k m = (j : ℕ) → j < m → holds (on_key t k) (get_or (set t.names own none) j none) ≡ false
+module _ {b : List ℕ} {t : Table} (h : Holds b t) (own k : ℕ) (in_use : is_free (get_or t.names own none) ≡ false) (at : k ≡ pinned_key t.keys (get_or t.names own none)) where
+  -- without the record in slot own, which is asked of none
+  but-own : (m : ℕ) → m < 128 → (eqb m own || not (holds (on_key t k) (get_or t.names m none))) ≡ not (holds (on_key t k) (get_or (set t.names own none) m none))
+  but-own m l =
+      by_test (eqb m own)
+      (λ e.
+      let there : get_or (set t.names own none) m none ≡ none =
+      ap (λ (j : ℕ). get_or (set t.names own none) j none) (eqb-true m own e) ∙ get_or-set_same t.names own none none (omega (arith, h.fits.name_slots, eqb-true m own e)) in
+      rw (e, there) refl)
+      (λ e. rw (e, get_or-set_other t.names own m none none (eqb-false m own e)) refl)
 
-module _ {b : List ℕ} {t : Table} (h : Holds b t) (own k : ℕ) where
-  -- the record's own slot, and another
-  pub alone-own : own < 128 → (m : ℕ) → m ≡ own → holds (on_key t k) (get_or (set t.names own none) m none) ≡ false
-  alone-own l m e =
-      ap (λ (j : ℕ). holds (on_key t k) (get_or (set t.names own none) j none)) e
-      ∙ ap (holds (on_key t k)) (get_or-set_same t.names own none none (omega (arith, h.fits.name_slots)))
+  pub alone : every (λ m. eqb m own || not (holds (on_key t k) (get_or t.names m none))) 128
+      ≡ not (any (pinned_to (key_of_name (get_or t.names own none))) (used (set t.names own none)))
+  alone =
+      every-same _ (λ m. not (holds (on_key t k) (get_or (set t.names own none) m none))) 128 but-own
+      ∙ every-not (λ m. holds (on_key t k) (get_or (set t.names own none) m none)) 128
+      ∙ ap not (any-slot (on_key t k) (set t.names own none) 128 (omega (arith, length-set t.names own none, h.fits.name_slots))
+      ∙ ap (λ (key : List ℕ). any (pinned_to key) (used (set t.names own none))) (pin_at h own k in_use at).its)
 
-  pub alone-other : (m : ℕ) (b : Bool) → (m ≡ own → ⊥) → holds (on_key t k) (get_or t.names m none) ≡ b → holds (on_key t k) (get_or (set t.names own none) m none) ≡ b
-  alone-other m b d e = ap (holds (on_key t k)) (get_or-set_other t.names own m none none d) ∙ e
+-- whether a search found a slot
+pub found-free-slot : {A : Type 0} {n : ℕ} (l : List (Option A)) → length l ≡ n → (r : std.Option ℕ) → r ≡ slot_found n (first_slot is_free l) → std.is_some r ≡ has_free l
+found-free-slot l slots (std.Some i) e = sym (found-free l slots i e).room
+found-free-slot l slots std.None e = sym (slots-full l slots e)
 
-  module _ (in_use : is_free (get_or t.names own none) ≡ false) (at : k ≡ pinned_key t.keys (get_or t.names own none)) where
-    by-record : (b : Bool) → any (on_key t k) (used (set t.names own none)) ≡ b
-        → not b ≡ not (any (pinned_to (key_of_name (get_or t.names own none))) (used (set t.names own none)))
-    by-record b e =
-        sym (ap (λ (key : List ℕ). not (any (pinned_to key) (used (set t.names own none)))) (sym (pin_at h own k in_use at).its) ∙ ap not e)
-
-    pub not_last : (m : ℕ) → (m ≡ own → ⊥) → holds (on_key t k) (get_or t.names m none) ≡ true
-        → false ≡ not (any (pinned_to (key_of_name (get_or t.names own none))) (used (set t.names own none)))
-    not_last m d e = by-record true (any_at (on_key t k) (set t.names own none) m (alone-other m true d e))
-
-    pub is_last : (m : ℕ) → 128 ≤ m → Alone t own k m
-        → true ≡ not (any (pinned_to (key_of_name (get_or t.names own none))) (used (set t.names own none)))
-    is_last m l f =
-        by-record false
-        (any_none (on_key t k) (set t.names own none) (λ j d. f j (omega (arith, length-set t.names own none, h.fits.name_slots))))
+module _ (tack : List ℕ) {key : List ℕ} (its : key ≡ public_key tack) {b : List ℕ} {t : Table} (h : Holds b t) where
+  pub found-key : (r : std.Option ℕ) → r ≡ slot_found 64 (first_slot (holds (key_is key)) t.keys) → std.is_some r ≡ key_recorded (public_key tack) t
+  found-key (std.Some k) e = sym (tack-key-at tack its h k e).recorded
+  found-key std.None e = sym (tack-key-absent tack its h e)
 
 -- the tack's key
-module _ (tack : List ℕ) {b : List ℕ} {t : Table} (h : Holds b t) where
-  pub key-room : key_recorded (public_key tack) t ≡ true → true ≡ key_room tack t
-  key-room e = sym (ap (λ (b : Bool). b || has_free t.keys) e)
+module _ (tack : List ℕ) (t : Table) where
+  pub key-room : true ≡ key_recorded (public_key tack) t → true ≡ key_room tack t
+  key-room e = ap (λ (b : Bool). b || has_free t.keys) e
 
-  pub slot-room : has_free t.keys ≡ true → true ≡ key_room tack t
-  slot-room e = sym (ap (λ (b : Bool). key_recorded (public_key tack) t || b) e ∙ or-true (key_recorded (public_key tack) t))
-
-  pub no-key-room : key_recorded (public_key tack) t ≡ false → has_free t.keys ≡ false → false ≡ key_room tack t
-  no-key-room e f = sym (ap₂ ◌||◌ e f)
+  pub slot-room : false ≡ key_recorded (public_key tack) t → has_free t.keys ≡ key_room tack t
+  slot-room e = ap (λ (b : Bool). b || has_free t.keys) e
 
 -- the whole, on a table that is sound at the clock
 module _ (name tack : List ℕ) (clock : ℕ) (t : Table) (sound : sound_table (settled_at clock t) ≡ true) where

@@ -15,7 +15,7 @@ use Rattle.pin_model.specs.Sound.{same_key, key_twice, same_name, name_twice, sa
 use Rattle.pin_distinct.specs.Hashes.{key_mark, name_mark, pin_mark}
 use Rattle.pin_distinct.specs.SeenMarks.{is_seen, with_seen}
 use Rattle.pin_distinct.specs.Pins.{pin_again, pins_distinct, no_name_thrice}
-use Rattle.pin_distinct.proofs.Seen.{MarksSeen, none_seen, passed_over, passed-marked, unseen}
+use Rattle.pin_distinct.proofs.SeenMarks.{MarksSeen, none_seen, passed_over, passed-marked, unseen}
 
 -- the marks of the used key slots, and of the used name slots by pin and by name
 abbrev pub KeysSeen : List ℕ → List ℕ → ℕ → Type 0
@@ -94,9 +94,6 @@ pub record FewSeen (b seen again : List ℕ) (n : ℕ) : Type 0 where
   pub names : NamesSeen b seen n
   pub doubles : DoublesSeen b again n
 
-pub few-none : (b : List ℕ) → FewSeen b (replicate 128 0) (replicate 128 0) 0
-few-none b = record { few = below_none _; names = none_seen _ _; doubles = none_seen _ _ }
-
 module _ (b : List ℕ) {seen again : List ℕ} {n : ℕ} (a : FewSeen b seen again n) where
   pub few-free : is_used (name_slot b n) ≡ false → FewSeen b seen again (n + 1)
   few-free f =
@@ -136,9 +133,9 @@ module _ (b : List ℕ) {seen again : List ℕ} {n : ℕ} (a : FewSeen b seen ag
       (and_right (same_name (name_slot b n) (name_slot b j)) _ t, e ∙ ap name_mark f.1))
 
 -- 'no name too often' in its two parts
-distinct-parts : (b : List ℕ) → names_distinct b ≡ cond (of_two b) (pins_distinct b && no_name_thrice b) (pins_distinct b)
+pub distinct_parts : (b : List ℕ) → names_distinct b ≡ cond (of_two b) (pins_distinct b && no_name_thrice b) (pins_distinct b)
 unfolding pins_distinct pin_again no_name_thrice names_distinct name_again
-distinct-parts b = go (of_two b)
+distinct_parts b = go (of_two b)
   where
     go : (two : Bool)
         → every (λ n. not (cond two (pin_twice b n || name_thrice b n) (name_twice b n))) 128
@@ -147,17 +144,3 @@ distinct-parts b = go (of_two b)
         (every (λ n. not (cond two (pin_twice b n) (name_twice b n))) 128)
     go false = refl
     go true = every-neither (pin_twice b) (name_thrice b) 128
-
-module _ (b : List ℕ) where
-  pub pin-double : pins_distinct b ≡ false → names_distinct b ≡ false
-  pin-double e = distinct-parts b ∙ go (of_two b)
-    where
-      go : (two : Bool) → cond two (pins_distinct b && no_name_thrice b) (pins_distinct b) ≡ false
-      go false = e
-      go true = rw e
-
-  pub once-distinct : of_two b ≡ false → pins_distinct b ≡ true → names_distinct b ≡ true
-  once-distinct o e = distinct-parts b ∙ rw o e
-
-  pub parts-distinct : of_two b ≡ true → pins_distinct b ≡ true → no_name_thrice b ≡ names_distinct b
-  parts-distinct o e = sym (distinct-parts b ∙ rw (o, e))

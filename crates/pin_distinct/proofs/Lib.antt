@@ -1,5 +1,5 @@
 pub mod SlotPairs
 pub mod Hashing
 pub mod SeenBits
-pub mod Seen
+pub mod SeenMarks
 pub mod Doubles

@@ -15,10 +15,6 @@ use Rattle.pin_model.specs.Layout.{name_length, name_in}
 pub said : (d : List ℕ → List ℕ → Bool) {s r a b : List ℕ} {x v : Bool} → s ≡ a → r ≡ b → x ≡ d s r → x ≡ v → d a b ≡ v
 said d e f g h = sym (ap₂ d e f) ∙ sym g ∙ h
 
--- a lent part p, which is q, compared
-pub same-lent : (s p q : List ℕ) (at n : ℕ) → p ≡ q → length p ≡ n → same (part s at (length p)) p ≡ same (part s at n) q
-same-lent s p q at n e l = rw (l, e)
-
 -- names of different lengths differ
 pub name-sized : (s : List ℕ) → length s ≡ 272 → name_length s < 256 → length (name_in s) ≡ name_length s
 name-sized s l h = part_length s 16 (get_or s 2 0) (omega arith)

@@ -1,18 +1,15 @@
 -- A mark, a number below 8,192, for a key and for a name, by which doubles are sought.
 -- Only private functions cite it: a reader of the open contracts can skip it.
 use Rattle.std.specs.Prelude.{ℕ, zero, suc, ◌+◌, ◌*◌, ◌-◌, ◌/◌, ◌%◌, ◌^◌, Bool, cond, List, ◌++◌, length, replicate}
+use Rattle.std.specs.Int.{w64, rotate_left}
 use Rattle.std.specs.Int.Bits.{bit_xor}
 use Rattle.octets.specs.Octets.{part}
 use Rattle.octets.specs.Words.{word}
 use Rattle.pin_model.specs.Layout.{key_number, name_in}
 
--- 64 bits rotated by 13 places
-unfoldable pub rotated : ℕ → ℕ
-rotated h = h % 2 ^ 51 * 2 ^ 13 + h / 2 ^ 51
-
--- a hash with one word more
+-- a hash with one word more: rotated by 13 places first
 unfoldable pub with_word : ℕ → ℕ → ℕ
-with_word h w = bit_xor (rotated h) w
+with_word h w = bit_xor (rotate_left w64 h 13) w
 
 -- 13 bits that all 64 of a hash go into
 abbrev pub mixed : ℕ → ℕ

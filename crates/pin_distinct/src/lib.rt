@@ -3,6 +3,7 @@
 
 pub mod distinct;
 mod key_repeats;
+mod mark;
 mod marks;
 mod repeats;
-mod seen_marks;
+mod seen;

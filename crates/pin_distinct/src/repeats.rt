@@ -1,108 +1,58 @@
 // Whether a name stands before in the table: once in edition one; with its key, or twice, in edition two.
-ghost use Rattle.std.specs.Prelude.{◌≡◌, ◌<◌, length};
-ghost use Rattle.pin_model.specs.Layout.{area_length, of_two};
-ghost use Rattle.pin_model.specs.Sound.{same_name, name_twice, same_pin, pin_twice, name_thrice};
+ghost use Rattle.std.specs.Prelude.{◌≡◌};
+ghost use Rattle.pin_model.specs.Layout.{of_two};
+ghost use Rattle.pin_model.specs.Sound.{same_name, name_twice, same_pin, name_thrice};
 ghost use Rattle.pin_distinct.specs.Pins.{pin_again};
 
 use pin_table::slots;
-use pin_table::slots::{NAME_AT, NameSlot};
+use pin_table::slots::{Area, NAME_AT, NAME_SLOT_LENGTH, NameSlot};
 
 // Whether two slots are used and have one name.
-fn same_name(s: &[u8], r: &[u8]) -> bool
-    requires { (length s.now ≡ 272) × (length r.now ≡ 272) }
+#[tactic(auto, unfolding(pin_model::specs::Sound::same_name))]
+fn same_name(s: &[u8; NAME_SLOT_LENGTH], r: &[u8; NAME_SLOT_LENGTH]) -> bool
     ensures { result ≡ same_name s.now r.now }
 {
-    if !slots::is_used(s) {
-        return false;
-    }
-    if !slots::is_used(r) {
-        return false;
-    }
-    if slots::name_length(s) != slots::name_length(r) {
-        return false;
-    }
-    let name = slots::name(r);
-    octets::same_at(s, NAME_AT, name)
+    slots::is_used(s)
+        && slots::is_used(r)
+        && slots::name_length(s) == slots::name_length(r)
+        && octets::same_at(s, NAME_AT, slots::name(r))
 }
 
 // Whether a slot before this one has its name.
-fn name_twice(area: &[u8], n: NameSlot) -> bool
-    requires { (length area.now ≡ area_length) × (n.0 < 128) }
-    ensures { result ≡ name_twice area.now n.0 }
+fn name_twice(area: &Area, n: NameSlot) -> bool
+    ensures { result ≡ name_twice area.now n }
 {
-    let count = n.0;
     let s = slots::name_slot(area, n);
-    let mut m = 0;
-    while m < count {
-        let r = slots::name_slot(area, NameSlot(m));
-        if same_name(s, r) {
-            return true;
-        }
-        m += 1;
-    }
-    false
+    (0..n.number()).any(|m| same_name(s, slots::name_slot(area, NameSlot::at(m))))
 }
 
 // Whether two slots are used and have one name and one key. The keys are compared first, since they are one byte each.
-fn same_pin(s: &[u8], r: &[u8]) -> bool
-    requires { (length s.now ≡ 272) × (length r.now ≡ 272) }
+#[tactic(auto, unfolding(pin_model::specs::Sound::same_pin))]
+fn same_pin(s: &[u8; NAME_SLOT_LENGTH], r: &[u8; NAME_SLOT_LENGTH]) -> bool
     ensures { result ≡ same_pin s.now r.now }
 {
-    let k = slots::key_number(s);
-    let j = slots::key_number(r);
-    if k.0 != j.0 {
-        return false;
-    }
-    same_name(s, r)
-}
-
-// Whether a slot before this one has its name and its key.
-fn pin_twice(area: &[u8], n: NameSlot) -> bool
-    requires { (length area.now ≡ area_length) × (n.0 < 128) }
-    ensures { result ≡ pin_twice area.now n.0 }
-{
-    let count = n.0;
-    let s = slots::name_slot(area, n);
-    let mut m = 0;
-    while m < count {
-        let r = slots::name_slot(area, NameSlot(m));
-        if same_pin(s, r) {
-            return true;
-        }
-        m += 1;
-    }
-    false
+    slots::key_number(s) == slots::key_number(r) && same_name(s, r)
 }
 
 // Whether two slots before this one have its name: one that has it, and one before that.
-pub fn name_thrice(area: &[u8], n: NameSlot) -> bool
-    requires { (length area.now ≡ area_length) × (n.0 < 128) }
-    ensures { result ≡ name_thrice area.now n.0 }
+pub fn name_thrice(area: &Area, n: NameSlot) -> bool
+    ensures { result ≡ name_thrice area.now n }
 {
-    let count = n.0;
     let s = slots::name_slot(area, n);
-    let mut m = 0;
-    while m < count {
-        let k = m;
-        m += 1;
-        let r = slots::name_slot(area, NameSlot(k));
-        if !same_name(s, r) {
-            continue;
-        }
-        if name_twice(area, NameSlot(k)) {
-            return true;
-        }
-    }
-    false
+    (0..n.number()).any(|m| {
+        let k = NameSlot::at(m);
+        same_name(s, slots::name_slot(area, k)) && name_twice(area, k)
+    })
 }
 
 // Whether a slot before this one says what it says: its name, and in edition two its key.
-pub fn pin_again(area: &[u8], n: NameSlot) -> bool
-    requires { (length area.now ≡ area_length) × (n.0 < 128) }
-    ensures { result ≡ pin_again (of_two area.now) area.now n.0 }
+pub fn pin_again(area: &Area, n: NameSlot) -> bool
+    ensures { result ≡ pin_again (of_two area.now) area.now n }
 {
-    if slots::is_two(area) {
-        return pin_twice(area, n);
-    }
-    name_twice(area, n)
+    let two = slots::is_two(area);
+    let s = slots::name_slot(area, n);
+    (0..n.number()).any(|m| {
+        let r = slots::name_slot(area, NameSlot::at(m));
+        if two { same_pin(s, r) } else { same_name(s, r) }
+    })
 }

@@ -3,7 +3,7 @@
 use Rattle.std.specs.Prelude.{◌≡◌, Bool, true, false, List, [], ◌∷◌, ◌++◌, ℕ, ◌*◌, ◌-◌, pos, replicate, set}
 use Rattle.octets.specs.Octets.{big_endian}
 use Rattle.tack_extension.specs.Extension.{parts, bytes_of, parse}
-use Rattle.tack_extension.specs.Answers.{reading_of, reading_number}
+use Rattle.tack_extension.specs.Answers.{reading_number}
 use Rattle.pin_model.specs.declared.Checks.{Checks}
 use Rattle.pin_model.specs.Connection.{Connection, connection, checks_by}
 use Rattle.pin_model.specs.Calls.{Call, judge, inspect, Answer, answer_of, plain, answered}
@@ -15,7 +15,7 @@ pub record ReadingRow : Type 0 where
   pub number : ℕ
 
 abbrev pub ReadingRight : ReadingRow → Type 0
-ReadingRight r = reading_number (reading_of (parse r.bytes)) ≡ r.number
+ReadingRight r = reading_number (parse r.bytes) ≡ r.number
 
 -- the calls before, the newest first, from an area that is all zero; the call; its whole answer
 pub record Row : Type 0 where

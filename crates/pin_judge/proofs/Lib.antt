@@ -1,5 +1,3 @@
 pub mod Learnt
 pub mod Steps
-pub mod ByParts
-pub mod Passing
-pub mod Refusing
+pub mod Judged

@@ -1,1 +1,1 @@
-pub mod PassingTwo
+pub mod JudgedTwo

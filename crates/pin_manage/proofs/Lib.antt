@@ -1,4 +1,3 @@
 pub mod Deleted
 pub mod Looked
 pub mod Started
-pub mod Differences

@@ -1,13 +1,11 @@
 -- What starting answers and leaves, by the length of the area.
-use mathlib.Core.Path.{◌≡◌, refl, sym, ap, ◌∙◌}
+use mathlib.Core.Path.{◌≡◌, refl, sym, ◌∙◌}
 use mathlib.Core.Bool.{Bool, true, false}
 use mathlib.Core.List.{List}
 use Prim.Native.Nat.{ℕ}
-use lib.ListN.{length, replicate, set, length-replicate}
+use lib.ListN.{length, replicate, set}
 use mir.Val.{bool_byte}
 use borrow.Author.Tests.{eq-eqb, ne_eqb}
-use Rattle.octets.specs.Octets.{put}
-use Rattle.octets.proofs.Parts.{put_all}
 use Rattle.pin_model.specs.Layout.{area_length, empty_area}
 use Rattle.pin_model.specs.Calls.{plain, start, refusal, answer, area_after, answered, area_left}
 use Rattle.pin_model.proofs.AreaKept.{started as area-started}
@@ -22,9 +20,10 @@ unfolding empty_area
 marked false = refl
 marked true = refl
 
-pub started : (two : Bool) (b : List ℕ) {zeros : List ℕ} → length b ≡ area_length → zeros ≡ put b 0 (replicate area_length 0)
-    → (plain 7 ≡ answered (start two) b) × (set zeros 4 (bool_byte two) ≡ area_left (start two) b)
+pub started : (two : Bool) (b : List ℕ) {zeros : List ℕ} {mark : ℕ} → length b ≡ area_length → zeros ≡ replicate (length b) 0 → mark ≡ bool_byte two
+    → (plain 7 ≡ answered (start two) b) × (set zeros 4 mark ≡ area_left (start two) b)
 unfolding answered area_left answer refusal
-started two b {zeros} h e =
-    let all : zeros ≡ replicate area_length 0 = e ∙ put_all b (replicate area_length 0) (h ∙ sym (length-replicate {A = ℕ} area_length 0)) in
-    (simp (eq-eqb (length b) area_length h), ap (λ (l : List ℕ). set l 4 (bool_byte two)) all ∙ marked two ∙ sym (area-started two b h))
+started two b h e d = (
+  simp (eq-eqb (length b) area_length h),
+  rw (d, e, h) (marked two) ∙ sym (area-started two b h),
+)

@@ -3,18 +3,18 @@ ghost use Rattle.std.specs.Prelude.{◌≡◌};
 ghost use Rattle.pin_model.specs.Calls as calls;
 ghost use Rattle.pin_answers.specs.Numbers.{starting_answer};
 
-use pin_answers::{Refusal, Starting};
+use pin_answers::Refusal;
 use pin_table::slots::{AREA_LENGTH, EDITION_AT};
 
 // 10 or 7.
-pub fn start(area: &mut [u8], edition_two: bool) -> Starting
+pub fn start(area: &mut [u8], edition_two: bool) -> Result<(), Refusal>
     ensures answer { starting_answer result ≡ calls.answered (calls.start edition_two) area.old }
     ensures area { area.new ≡ calls.area_left (calls.start edition_two) area.old }
 {
     if area.len() != AREA_LENGTH {
-        return Starting::Refused(Refusal::AreaLength);
+        return Err(Refusal::AreaLength);
     }
-    octets::put_zeros(area, 0, AREA_LENGTH);
-    area[EDITION_AT] = edition_two as u8;
-    Starting::Started
+    area.fill(0);
+    area[EDITION_AT] = u8::from(edition_two);
+    Ok(())
 }

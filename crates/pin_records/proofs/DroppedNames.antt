@@ -18,18 +18,9 @@ use Rattle.pin_records.proofs.FreedSlots.{freed_to, freed-to-at, freed-to-goes, 
 abbrev pub dropped : (NameRecord → Bool) → Table → ℕ → Table
 dropped gone t n = holding t t.keys (freed_to gone n t.names)
 
--- the loop may begin at a slot before which none passes
-pub drop-start : (gone : NameRecord → Bool) (t : Table) {b : List ℕ} (n : ℕ) → Holds b t → ((j : ℕ) → j < n → holds gone (get_or t.names j none) ≡ false)
-    → Holds b (dropped gone t n)
-drop-start gone t {b} n h before =
-    subst (λ (l : List (Option NameRecord)). Holds b (holding t t.keys l)) (sym (freed-to-none gone n t.names before)) h
-
 module _ (gone : NameRecord → Bool) (t : Table) {b : List ℕ} (n : ℕ) (h : Holds b (dropped gone t n)) where
   back : decode b ≡ dropped gone t n
   back = holds-decode h
-
-  pub drop-keys : (decode b).keys ≡ t.keys
-  drop-keys = ap (λ (v : Table). v.keys) back
 
   -- slot n is as it was at the start
   drop-slot : get_or (decode b).names n none ≡ get_or t.names n none

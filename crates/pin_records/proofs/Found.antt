@@ -1,16 +1,15 @@
--- The answers of the searches: what a loop has to show, and what its caller knows.
+-- The answers of the searches: what they found, and what their callers know.
 use mathlib.Core.Path.{◌≡◌, sym, ◌∙◌, ap}
 use mathlib.Core.Bool.{Bool, true, false, cond, ◌&&◌}
 use mathlib.Core.List.{List}
 use mathlib.Core.Option.{Option, none, some}
-use Prim.Native.Nat.{ℕ, ◌≤◌, ◌<◌}
+use Prim.Native.Nat.{ℕ, ◌≤◌, ◌<◌, zero-le}
 use native.Mathlib.Omega.{arith}
 use lib.Dec.{ltb}
 use lib.ListN.{length, get_or, set}
-use borrow.Author.Tests.{lt-ltb, ltb-true, ltb-false}
+use borrow.Author.Tests.{lt-ltb, le-ltb, ltb-true, ltb-false}
 use Rattle.octets.specs.Octets.{same, any}
 use Rattle.octets.proofs.Equal.{same_true, same-eq}
-use Rattle.octets.proofs.Options.{clash}
 use Rattle.octets.proofs.Tests.{by_test}
 use Rattle.pin_model.specs.Slots.{used, has_free, freed, changed, placed}
 use Rattle.pin_model.specs.Table.{KeyRecord, NameRecord, key_is, name_is}
@@ -18,67 +17,30 @@ use Rattle.pin_model.specs.Fits.{holds}
 use Rattle.pin_model.proofs.Lists.{count}
 use Rattle.pin_model.proofs.Places.{any_at, any_none, any-once}
 use Rattle.pin_model.proofs.OneSlot.{freed-set, changed-set}
-use Rattle.pin_table.specs.declared.slots.KeySlot.{KeySlot}
-use Rattle.pin_table.specs.declared.slots.NameSlot.{NameSlot}
-use Rattle.pin_records.specs.Find.{is_free, first_slot, key_found, name_found}
-use Rattle.pin_records.specs.declared.find.FoundKey.TheVariants as key-found
-use Rattle.pin_records.specs.declared.find.FoundName.TheVariants as name-found
+use Rattle.std.specs.Prelude.{Some, None}
+use Rattle.std.specs.Prelude as answer
+use Rattle.pin_table.proofs.Ranges.{IsLowest}
+use Rattle.pin_records.specs.Find.{is_free, first_slot, slot_found}
 use Rattle.pin_records.proofs.Placed.{first-at, first-none, first_passes, first_absent, Used, is-used, holds-used, free-none, free-below, free-above, placed-set}
 
--- what a loop over the slots has to show
-module _ (p : Option KeyRecord → Bool) (keys : List (Option KeyRecord)) (slots : length keys ≡ 64) where
-  pub key-at : (i : ℕ) → i < 64 → ((j : ℕ) → j < i → p (get_or keys j none) ≡ false) → p (get_or keys i none) ≡ true → key-found.At (record { 0 = i }) ≡ key_found (first_slot p keys)
-  unfolding key_found
-  key-at i l before here =
-      let q : first_slot p keys ≡ i = first-at p keys i (omega arith) before here in
-      sym (rw (q, lt-ltb i 64 l))
-
-  pub key-nowhere : ((j : ℕ) → j < 64 → p (get_or keys j none) ≡ false) → key-found.Nothing ≡ key_found (first_slot p keys)
-  unfolding key_found
-  key-nowhere no_slot =
-      let q : first_slot p keys ≡ length keys = first-none p keys (λ j l. no_slot j (omega arith)) in
-      sym (rw (q, slots))
-
-module _ (p : Option NameRecord → Bool) (names : List (Option NameRecord)) (slots : length names ≡ 128) where
-  pub name-at : (i : ℕ) → i < 128 → ((j : ℕ) → j < i → p (get_or names j none) ≡ false) → p (get_or names i none) ≡ true → name-found.At (record { 0 = i }) ≡ name_found (first_slot p names)
-  unfolding name_found
-  name-at i l before here =
-      let q : first_slot p names ≡ i = first-at p names i (omega arith) before here in
-      sym (rw (q, lt-ltb i 128 l))
-
-  pub name-nowhere : ((j : ℕ) → j < 128 → p (get_or names j none) ≡ false) → name-found.Nothing ≡ name_found (first_slot p names)
-  unfolding name_found
-  name-nowhere no_slot =
-      let q : first_slot p names ≡ length names = first-none p names (λ j l. no_slot j (omega arith)) in
-      sym (rw (q, slots))
+-- the lowest slot that passes a test
+pub lowest-slot : {A : Type 0} (p : Option A → Bool) (l : List (Option A)) (n : ℕ) → length l ≡ n → (r : answer.Option ℕ) → IsLowest (λ k. p (get_or l k none)) 0 n r → r ≡ slot_found n (first_slot p l)
+unfolding slot_found
+lowest-slot p l n slots None h =
+    let q : first_slot p l ≡ length l = first-none p l (λ j k. h j zero-le (omega arith)) in
+    sym (rw (q, slots, le-ltb n n (omega arith)))
+lowest-slot p l n slots (Some i) h =
+    let q : first_slot p l ≡ i = first-at p l i (omega (arith, h.1)) (λ j k. h.3 j zero-le k) h.2 in
+    sym (rw (q, lt-ltb i n h.1))
 
 -- what the answer of a search says of the place that it found
-in-slots : {F : Type 0} {at nothing found : F} (j n : ℕ) → found ≡ cond (ltb j n) at nothing → (found ≡ nothing → ⊥)
-    → (j < n) × (found ≡ at)
-in-slots j n e somewhere = by_test (ltb j n) (λ d. (ltb-true j n d, simp d at e)) (λ d. absurd (somewhere (simp d at e)))
+pub slot-there : (n j i : ℕ) → Some i ≡ slot_found n j → (j < n) × (j ≡ i)
+unfolding slot_found
+slot-there n j i e = by_test (ltb j n) (λ d. (ltb-true j n d, let q : Some i ≡ Some j = simp d at e in cc)) (λ d. let q : Some i ≡ None = simp d at e in cc)
 
-behind-slots : {F : Type 0} {at found : F} (nothing : F) (j n : ℕ) → found ≡ cond (ltb j n) at nothing → (found ≡ at → ⊥) → n ≤ j
-behind-slots nothing j n e nowhere = by_test (ltb j n) (λ d. absurd (nowhere (simp d at e))) (λ d. ltb-false j n d)
-
-key-there : (j : ℕ) (k : KeySlot) → key-found.At k ≡ key_found j → (j < 64) × (j ≡ k.0)
-unfolding key_found
-key-there j k e =
-    let t : (j < 64) × (key-found.At k ≡ key-found.At (record { 0 = j })) = in-slots j 64 e (λ h. clash (cc)) in
-    (t.0, let same_place : k ≡ record { 0 = j } = let q = t.1 in cc in sym (ap (λ (x : KeySlot). x.0) same_place))
-
-key-not-there : (j : ℕ) → key-found.Nothing ≡ key_found j → 64 ≤ j
-unfolding key_found
-key-not-there j e = behind-slots key-found.Nothing j 64 e (λ h. clash (cc))
-
-pub name-there : (j : ℕ) (n : NameSlot) → name-found.At n ≡ name_found j → (j < 128) × (j ≡ n.0)
-unfolding name_found
-name-there j n e =
-    let t : (j < 128) × (name-found.At n ≡ name-found.At (record { 0 = j })) = in-slots j 128 e (λ h. clash (cc)) in
-    (t.0, let same_place : n ≡ record { 0 = j } = let q = t.1 in cc in sym (ap (λ (x : NameSlot). x.0) same_place))
-
-pub name-not-there : (j : ℕ) → name-found.Nothing ≡ name_found j → 128 ≤ j
-unfolding name_found
-name-not-there j e = behind-slots name-found.Nothing j 128 e (λ h. clash (cc))
+pub slot-not-there : (n j : ℕ) → None ≡ slot_found n j → n ≤ j
+unfolding slot_found
+slot-not-there n j e = by_test (ltb j n) (λ d. let q : None ≡ Some j = simp d at e in cc) (λ d. ltb-false j n d)
 
 -- slot i of n is used, by an element whose field has the value
 pub record FoundAt {A : Type 0} (field : A → List ℕ) (value : List ℕ) (l : List (Option A)) (n i : ℕ) : Type 0 where
@@ -97,16 +59,16 @@ pub record FreeAt {A : Type 0} (l : List (Option A)) (n i : ℕ) : Type 0 where
   pub room : has_free l ≡ true
   pub lowest : (a : A) → placed a l ≡ set l i (some a)
 
-module _ {A : Type 0} (field : A → List ℕ) (value : List ℕ) (l : List (Option A)) (n : ℕ) (slots : length l ≡ n) where
-  abbrev has : A → Bool
-  has a = same (field a) value
-
-  found_at : (i : ℕ) → first_slot (holds has) l < n → first_slot (holds has) l ≡ i → FoundAt field value l n i
-  found_at i m e =
-      let here : holds has (get_or l i none) ≡ true = ap (λ (j : ℕ). holds has (get_or l j none)) (sym e) ∙ first_passes (holds has) l (omega arith) in
+-- what the answer of a search says
+module _ {A : Type 0} {n : ℕ} (l : List (Option A)) (slots : length l ≡ n) where
+  pub held-at : (field : A → List ℕ) (value : List ℕ) (i : ℕ) → Some i ≡ slot_found n (first_slot (holds (λ a. same (field a) value)) l) → FoundAt field value l n i
+  held-at field value i e =
+      let has : A → Bool = λ a. same (field a) value in
+      let t = slot-there n (first_slot (holds has) l) i e in
+      let here : holds has (get_or l i none) ≡ true = ap (λ (j : ℕ). holds has (get_or l j none)) (sym t.1) ∙ first_passes (holds has) l (omega (arith, t.0)) in
       let u : Used (get_or l i none) = is-used (get_or l i none) (holds-used has (get_or l i none) here) in
       record {
-        below = omega arith;
+        below = omega (arith, t.0, t.1);
         what = u.what;
         there = u.there;
         its = same_true (field u.what) value (sym (ap (holds has) u.there) ∙ here);
@@ -114,51 +76,42 @@ module _ {A : Type 0} (field : A → List ℕ) (value : List ℕ) (l : List (Opt
         recorded = any_at has l i here;
       }
 
-  found_nowhere : n ≤ first_slot (holds has) l → any has (used l) ≡ false
-  found_nowhere m = any_none has l (first_absent (holds has) l (omega arith))
+  pub held-nowhere : (field : A → List ℕ) (value : List ℕ) → None ≡ slot_found n (first_slot (holds (λ a. same (field a) value)) l) → any (λ a. same (field a) value) (used l) ≡ false
+  held-nowhere field value e =
+      let has : A → Bool = λ a. same (field a) value in
+      any_none has l (first_absent (holds has) l (omega (arith, slot-not-there n (first_slot (holds has) l) e)))
 
-module _ {A : Type 0} (l : List (Option A)) (n : ℕ) (slots : length l ≡ n) where
-  free-at : (i : ℕ) → first_slot is_free l < n → first_slot is_free l ≡ i → FreeAt l n i
-  free-at i m e =
-      let here : is_free (get_or l i none) ≡ true = ap (λ (j : ℕ). is_free (get_or l j none)) (sym e) ∙ first_passes is_free l (omega arith) in
+  pub found-free : (i : ℕ) → Some i ≡ slot_found n (first_slot is_free l) → FreeAt l n i
+  found-free i e =
+      let t = slot-there n (first_slot is_free l) i e in
+      let here : is_free (get_or l i none) ≡ true = ap (λ (j : ℕ). is_free (get_or l j none)) (sym t.1) ∙ first_passes is_free l (omega (arith, t.0)) in
       record {
-        below = omega arith;
+        below = omega (arith, t.0, t.1);
         there = free-none (get_or l i none) here;
         free = here;
-        room = free-below l (omega arith);
-        lowest = λ a. placed-set a l ∙ ap (λ (j : ℕ). set l j (some a)) e;
+        room = free-below l (omega (arith, t.0));
+        lowest = λ a. placed-set a l ∙ ap (λ (j : ℕ). set l j (some a)) t.1;
       }
 
--- what the answer of a search says
-module _ (keys : List (Option KeyRecord)) (slots : length keys ≡ 64) where
-  pub key-found-at : (key : List ℕ) (k : KeySlot) → key-found.At k ≡ key_found (first_slot (holds (key_is key)) keys) → FoundAt (λ x. x.key) key keys 64 k.0
-  key-found-at key k e =
-      let t = key-there (first_slot (holds (key_is key)) keys) k e in
-      found_at (λ x. x.key) key keys 64 slots k.0 t.0 t.1
+  pub slots-full : None ≡ slot_found n (first_slot is_free l) → has_free l ≡ false
+  slots-full e = free-above l (omega (arith, slot-not-there n (first_slot is_free l) e))
 
-  pub key-absent : (key : List ℕ) → key-found.Nothing ≡ key_found (first_slot (holds (key_is key)) keys) → any (key_is key) (used keys) ≡ false
-  key-absent key e = found_nowhere (λ x. x.key) key keys 64 slots (key-not-there (first_slot (holds (key_is key)) keys) e)
+-- the same of keys, and of names
+pub key-found-at : (keys : List (Option KeyRecord)) → length keys ≡ 64 → (key : List ℕ) (k : ℕ) → Some k ≡ slot_found 64 (first_slot (holds (key_is key)) keys)
+    → FoundAt (λ x. x.key) key keys 64 k
+key-found-at keys slots key k e = held-at keys slots (λ x. x.key) key k e
 
-  pub key-free-at : (k : KeySlot) → key-found.At k ≡ key_found (first_slot is_free keys) → FreeAt keys 64 k.0
-  key-free-at k e = let t = key-there (first_slot is_free keys) k e in free-at keys 64 slots k.0 t.0 t.1
+pub key-absent : (keys : List (Option KeyRecord)) → length keys ≡ 64 → (key : List ℕ) → None ≡ slot_found 64 (first_slot (holds (key_is key)) keys)
+    → any (key_is key) (used keys) ≡ false
+key-absent keys slots key e = held-nowhere keys slots (λ x. x.key) key e
 
-  pub keys-full : key-found.Nothing ≡ key_found (first_slot is_free keys) → has_free keys ≡ false
-  keys-full e = free-above keys (omega (arith, key-not-there (first_slot is_free keys) e))
+pub name-found-at : (names : List (Option NameRecord)) → length names ≡ 128 → (name : List ℕ) (n : ℕ) → Some n ≡ slot_found 128 (first_slot (holds (name_is name)) names)
+    → FoundAt (λ x. x.name) name names 128 n
+name-found-at names slots name n e = held-at names slots (λ x. x.name) name n e
 
-module _ (names : List (Option NameRecord)) (slots : length names ≡ 128) where
-  pub name-found-at : (name : List ℕ) (n : NameSlot) → name-found.At n ≡ name_found (first_slot (holds (name_is name)) names) → FoundAt (λ x. x.name) name names 128 n.0
-  name-found-at name n e =
-      let t = name-there (first_slot (holds (name_is name)) names) n e in
-      found_at (λ x. x.name) name names 128 slots n.0 t.0 t.1
-
-  pub name-absent : (name : List ℕ) → name-found.Nothing ≡ name_found (first_slot (holds (name_is name)) names) → any (name_is name) (used names) ≡ false
-  name-absent name e = found_nowhere (λ x. x.name) name names 128 slots (name-not-there (first_slot (holds (name_is name)) names) e)
-
-  pub name-free-at : (n : NameSlot) → name-found.At n ≡ name_found (first_slot is_free names) → FreeAt names 128 n.0
-  name-free-at n e = let t = name-there (first_slot is_free names) n e in free-at names 128 slots n.0 t.0 t.1
-
-  pub names-full : name-found.Nothing ≡ name_found (first_slot is_free names) → has_free names ≡ false
-  names-full e = free-above names (omega (arith, name-not-there (first_slot is_free names) e))
+pub name-absent : (names : List (Option NameRecord)) → length names ≡ 128 → (name : List ℕ) → None ≡ slot_found 128 (first_slot (holds (name_is name)) names)
+    → any (name_is name) (used names) ≡ false
+name-absent names slots name e = held-nowhere names slots (λ x. x.name) name e
 
 -- where no two elements share the field, an operation on those that have the value changes that slot alone
 module _ {A : Type 0} {field : A → List ℕ} {value : List ℕ} {l : List (Option A)} {n i : ℕ} (x : FoundAt field value l n i)

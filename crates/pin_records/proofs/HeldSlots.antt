@@ -19,10 +19,10 @@ use Rattle.pin_model.proofs.Fits.{name-fits, name-fits-at}
 use Rattle.pin_model.proofs.NameBytes.{initial-field, end-field}
 use Rattle.pin_model.proofs.Encoded.{encode-key-slot, encode-name-slot, decode-encode}
 use Rattle.pin_table.specs.declared.minutes.Minutes.{Minutes}
+use Rattle.std.specs.Prelude.{Some, None}
 use Rattle.pin_records.specs.Holds.{Holds, Stored}
 use Rattle.pin_records.specs.Find.{is_free, initial_at, end_at}
 use Rattle.pin_records.specs.Read.{end_found, pinned_key}
-use Rattle.pin_records.specs.declared.read.PinEnd.TheVariants as pin-end
 use Rattle.pin_records.proofs.Placed.{Used, is-used}
 
 -- the fields of a slot as it is written
@@ -37,24 +37,24 @@ module _ (keys : List (Option KeyRecord)) where
   initial-of none o = refl
   initial-of (some r) o = initial-field keys r (name-fits keys r o).initial_fits
 
-  absent-of : (x : Option NameRecord) → (end_present (encode_name keys x) ≡ 1 → ⊥) → pin-end.Absent ≡ end_found (end_at x)
+  absent-of : (x : Option NameRecord) → (end_present (encode_name keys x) ≡ 1 → ⊥) → None ≡ end_found (end_at x)
   unfolding encode_name
   absent-of none f = refl
   absent-of (some r) f = go r.end f
     where
-      go : (e : Option ℕ) → (present e ≡ 1 → ⊥) → pin-end.Absent ≡ end_found e
+      go : (e : Option ℕ) → (present e ≡ 1 → ⊥) → None ≡ end_found e
       go none f = refl
       go (some end) f = absurd (f refl)
 
   end_of : (x : Option NameRecord) (m : Minutes) → free_or (name_fits keys) x ≡ true → end_present (encode_name keys x) ≡ 1 → m.0 ≡ end_in (encode_name keys x)
-      → pin-end.At m ≡ end_found (end_at x)
+      → Some m ≡ end_found (end_at x)
   unfolding encode_name
   end_of none m o e v = absurd (omega arith)
   end_of (some r) m o e v = go r.end (v ∙ end-field keys r (name-fits keys r o).end_fits) e
     where
-      go : (end : Option ℕ) → m.0 ≡ or_zero end → present end ≡ 1 → pin-end.At m ≡ end_found end
+      go : (end : Option ℕ) → m.0 ≡ or_zero end → present end ≡ 1 → Some m ≡ end_found end
       go none d e = absurd (omega arith)
-      go (some end) d e = ap (λ (n : ℕ). pin-end.At (record { 0 = n })) d
+      go (some end) d e = ap (λ (n : ℕ). Some (record { 0 = n })) d
 
   number_of : (x : Option NameRecord) → key_number (encode_name keys x) ≡ pinned_key keys x
   unfolding encode_name
@@ -98,10 +98,10 @@ module _ {b : List ℕ} {t : Table} (h : Holds b t) where
     pub held-initial : initial_in s ≡ initial_at (get_or t.names n none)
     held-initial = ap initial_in (name-slot n l e) ∙ initial-of t.keys (get_or t.names n none) fits
 
-    pub held-absent : (end_present s ≡ 1 → ⊥) → pin-end.Absent ≡ end_found (end_at (get_or t.names n none))
+    pub held-absent : (end_present s ≡ 1 → ⊥) → None ≡ end_found (end_at (get_or t.names n none))
     held-absent f = absent-of t.keys (get_or t.names n none) (λ d. f (ap end_present (name-slot n l e) ∙ d))
 
-    pub held-end : (m : Minutes) → end_present s ≡ 1 → m.0 ≡ end_in s → pin-end.At m ≡ end_found (end_at (get_or t.names n none))
+    pub held-end : (m : Minutes) → end_present s ≡ 1 → m.0 ≡ end_in s → Some m ≡ end_found (end_at (get_or t.names n none))
     held-end m d v =
         end_of t.keys (get_or t.names n none) m fits (sym (ap end_present (name-slot n l e)) ∙ d) (v ∙ ap end_in (name-slot n l e))
 

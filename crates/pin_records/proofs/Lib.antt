@@ -9,3 +9,5 @@ pub mod DroppedNames
 pub mod Cleared
 pub mod DistinctNames
 pub mod Stores
+pub mod ClearedNames
+pub mod AnySlot

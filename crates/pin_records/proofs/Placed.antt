@@ -96,13 +96,3 @@ is-used (some a) e = record { what = a; there = refl }
 pub holds-used : {A : Type 0} (p : A → Bool) (x : Option A) → holds p x ≡ true → is_free x ≡ false
 holds-used p none e = absurd (false≢true e)
 holds-used p (some a) e = refl
-
--- two tests of a slot, by the first
-module _ {A : Type 0} (p q : A → Bool) where
-  pub holds-both : (x : Option A) → holds p x ≡ true → holds (λ a. p a && q a) x ≡ holds q x
-  holds-both none e = refl
-  holds-both (some a) e = ap (λ (b : Bool). b && q a) e
-
-  pub holds-neither : (x : Option A) → holds p x ≡ false → holds (λ a. p a && q a) x ≡ false
-  holds-neither none e = refl
-  holds-neither (some a) e = ap (λ (b : Bool). b && q a) e

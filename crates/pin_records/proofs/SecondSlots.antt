@@ -1,23 +1,24 @@
 -- The second slot that passes a test, and how many pass.
 use mathlib.Core.Path.{◌≡◌, refl, sym, ◌∙◌, ap}
-use mathlib.Core.Bool.{Bool, true, false, cond}
+use mathlib.Core.Bool.{Bool, true, false, cond, true≢false, false≢true}
 use mathlib.Core.List.{List, [], ◌∷◌}
 use mathlib.Core.Option.{Option, none, some}
 use Prim.Native.Nat.{ℕ, zero, suc, ◌+◌, ◌≤◌, ◌<◌, zero-le, suc-le-suc}
 use native.Mathlib.Nat.{le_of_suc-le-suc, not-suc-le-zero}
 use native.Mathlib.Omega.{arith}
 use lib.ListN.{length, get_or}
-use borrow.Author.Tests.{lt-ltb}
+use borrow.Author.Tests.{lt-ltb, le-ltb}
 use Rattle.pin_model.specs.Slots.{bit, count, used}
 use Rattle.pin_model.specs.Table.{NameRecord}
 use Rattle.pin_model.specs.Fits.{holds}
 use Rattle.pin_model.proofs.Lists.{count_none}
 use Rattle.pin_model.proofs.Places.{any_none, count_at}
-use Rattle.pin_table.specs.declared.slots.NameSlot.{NameSlot}
-use Rattle.pin_records.specs.Find.{first_slot, second_slot, name_found}
-use Rattle.pin_records.specs.declared.find.FoundName.TheVariants as name-found
+use Rattle.std.specs.Prelude.{Some, None}
+use Rattle.std.specs.Prelude as answer
+use Rattle.pin_table.proofs.Ranges.{IsLowest}
+use Rattle.pin_records.specs.Find.{first_slot, second_slot, slot_found}
 use Rattle.pin_records.proofs.Placed.{first-at, first-none, first-before, first_passes, first_absent}
-use Rattle.pin_records.proofs.Found.{name-there, name-not-there}
+use Rattle.pin_records.proofs.Found.{slot-there, slot-not-there}
 
 module _ {A : Type 0} (p : Option A → Bool) where
   -- slot n is the first that passes, and m the first behind it
@@ -65,40 +66,32 @@ module _ {A : Type 0} (p : Option A → Bool) where
       go true k ih = first_passes p xs k
       go false k ih = ih k
 
--- what a search behind the first slot has to show
-module _ (p : Option NameRecord → Bool) (names : List (Option NameRecord)) (slots : length names ≡ 128) where
-  pub no-first : name-found.Nothing ≡ name_found (first_slot p names) → name-found.Nothing ≡ name_found (second_slot p names)
-  unfolding name_found
+-- what a search behind the first slot finds
+module _ {A : Type 0} (p : Option A → Bool) (l : List (Option A)) (n : ℕ) (slots : length l ≡ n) where
+  pub no-first : None ≡ slot_found n (first_slot p l) → None ≡ slot_found n (second_slot p l)
+  unfolding slot_found
   no-first e =
-      let absent : length names ≤ first_slot p names = omega (arith, name-not-there (first_slot p names) e) in
-      sym (rw (second-nowhere p names (first_absent p names absent), slots))
+      let absent : length l ≤ first_slot p l = omega (arith, slot-not-there n (first_slot p l) e) in
+      sym (rw (second-nowhere p l (first_absent p l absent), slots, le-ltb n n (omega arith)))
 
-  module _ (first : NameSlot) (e : name-found.At first ≡ name_found (first_slot p names)) where
-    there : (first_slot p names < 128) × (first_slot p names ≡ first.0)
-    there = name-there (first_slot p names) first e
+  module _ (first : ℕ) (e : Some first ≡ slot_found n (first_slot p l)) where
+    there : (first_slot p l < n) × (first_slot p l ≡ first)
+    there = slot-there n (first_slot p l) first e
 
-    pub first_below : first.0 < 128
-    first_below = omega (arith, there.0, there.1)
+    before : (j : ℕ) → j < first → p (get_or l j none) ≡ false
+    before j k = first-before p l j (omega (arith, there.1))
 
-    before : (j : ℕ) → j < first.0 → p (get_or names j none) ≡ false
-    before j l = first-before p names j (omega (arith, there.1))
+    here : p (get_or l first none) ≡ true
+    here = ap (λ (i : ℕ). p (get_or l i none)) (sym there.1) ∙ first_passes p l (omega (arith, there.0))
 
-    here : p (get_or names first.0 none) ≡ true
-    here = ap (λ (i : ℕ). p (get_or names i none)) (sym there.1) ∙ first_passes p names (omega (arith, there.0))
-
-    pub second-found : (m : ℕ) → first.0 + 1 ≤ m → m < 128 → ((j : ℕ) → j < m → first.0 + 1 ≤ j → p (get_or names j none) ≡ false)
-        → p (get_or names m none) ≡ true → name-found.At (record { 0 = m }) ≡ name_found (second_slot p names)
-    unfolding name_found
-    second-found m d l between at =
-        let q : second_slot p names ≡ m = second_at p names first.0 m (omega arith) (omega arith) before here (λ j i k. between j k (omega arith)) at in
-        sym (rw (q, lt-ltb m 128 l))
-
-    pub second-missing : ((j : ℕ) → j < 128 → first.0 + 1 ≤ j → p (get_or names j none) ≡ false) → name-found.Nothing ≡ name_found (second_slot p names)
-    unfolding name_found
-    second-missing behind =
-        let q : second_slot p names ≡ length names =
-        second_none p names first.0 (omega (arith, first_below)) before here (λ j i k. behind j (omega arith) (omega arith)) in
-        sym (rw (q, slots))
+    pub second-lowest : (r : answer.Option ℕ) → IsLowest (λ k. p (get_or l k none)) (first + 1) n r → r ≡ slot_found n (second_slot p l)
+    unfolding slot_found
+    second-lowest None h =
+        let q : second_slot p l ≡ length l = second_none p l first (omega (arith, there.0, there.1)) before here (λ j i k. h j (omega arith) (omega arith)) in
+        sym (rw (q, slots, le-ltb n n (omega arith)))
+    second-lowest (Some m) h =
+        let q : second_slot p l ≡ m = second_at p l first m (omega (arith, h.0)) (omega (arith, h.1)) before here (λ j i k. h.3 j (omega arith) k) h.2 in
+        sym (rw (q, lt-ltb m n h.1))
 
 -- fewer than two pass, or two
 module _ {A : Type 0} (p : A → Bool) where
@@ -125,8 +118,17 @@ module _ {A : Type 0} (p : A → Bool) where
       go false e k ih = omega (arith, ap bit e, ih k)
 
 module _ (p : NameRecord → Bool) (names : List (Option NameRecord)) (slots : length names ≡ 128) where
-  pub fewer-than-two : name-found.Nothing ≡ name_found (second_slot (holds p) names) → count p (used names) < 2
-  fewer-than-two e = few p names (omega (arith, name-not-there (second_slot (holds p) names) e))
+  pub fewer-than-two : None ≡ slot_found 128 (second_slot (holds p) names) → count p (used names) < 2
+  fewer-than-two e = few p names (omega (arith, slot-not-there 128 (second_slot (holds p) names) e))
 
-  pub two-there : (n : NameSlot) → name-found.At n ≡ name_found (second_slot (holds p) names) → 2 ≤ count p (used names)
-  two-there n e = many p names (omega (arith, (name-there (second_slot (holds p) names) n e).0))
+  pub two-there : (n : ℕ) → Some n ≡ slot_found 128 (second_slot (holds p) names) → 2 ≤ count p (used names)
+  two-there n e = many p names (omega (arith, (slot-there 128 (second_slot (holds p) names) n e).0))
+
+  -- by whether a second slot was found
+  pub two-found : (r : answer.Option ℕ) → r ≡ slot_found 128 (second_slot (holds p) names) → true ≡ answer.is_some r → 2 ≤ count p (used names)
+  two-found (Some n) e d = two-there n e
+  two-found None e d = absurd (true≢false d)
+
+  pub fewer-found : (r : answer.Option ℕ) → r ≡ slot_found 128 (second_slot (holds p) names) → false ≡ answer.is_some r → count p (used names) < 2
+  fewer-found (Some n) e d = absurd (false≢true d)
+  fewer-found None e d = fewer-than-two e

@@ -36,15 +36,12 @@ new-end keys r end = refl
 -- the pieces of a new name's slot
 abbrev pub new_name : ℕ → List ℕ → ℕ → List ℕ
 new_name k name clock =
-    ((((1 ∷ (k % 256 ∷ (length name % 256 ∷ (0 ∷ [])))) ++ big_endian 4 clock) ++ replicate 8 0) ++ name) ++ replicate (256 - length name) 0
+    ((((1 ∷ (k ∷ (length name ∷ (0 ∷ [])))) ++ big_endian 4 clock) ++ replicate 8 0) ++ name) ++ replicate (256 - length name) 0
 
-new-name : (keys : List (Option KeyRecord)) (k clock : ℕ) (name key : List ℕ) → k < 64 → length name ≤ 253 → place_of key keys ≡ k
+new-name : (keys : List (Option KeyRecord)) (k clock : ℕ) (name key : List ℕ) → place_of key keys ≡ k
     → new_name k name clock ≡ encode_name keys (some (name_record name key clock none))
 unfolding encode_name big_endian
-new-name keys k clock name key l short e =
-    let number : k % 256 ≡ k = mod-eq_of_lt (omega arith) in
-    let size : length name % 256 ≡ length name = mod-eq_of_lt (omega arith) in
-    rw (number, size, e) refl
+new-name keys k clock name key e = rw e refl
 
 held : {d : List ℕ} {u : Table} → Fits u → Distinct u.two u.names → d ≡ encode u → Holds d u
 held {d} {u} fits distinct bytes = record { bytes = bytes; long = ap length bytes ∙ encode-length u fits; fits = fits; distinct = distinct }
@@ -131,4 +128,4 @@ module _ {b : List ℕ} {t : Table} (h : Holds b t) where
           (name-written t h.fits n (some r) l
           (fits-name t.keys r (record { short = short; recorded = any_at (key_is x.key) t.keys k its; initial_fits = small; end_fits = omega arith })))
           (distinct-added h.distinct n (rw h.fits.name_slots l) r f)
-          (q ∙ ap (put b (4616 + 272 * n)) (new-name t.keys k clock name x.key m short place))
+          (q ∙ ap (put b (4616 + 272 * n)) (new-name t.keys k clock name x.key place))

@@ -1,12 +1,9 @@
 -- Where records stand among the slots. Cited by the functions between the open ones and the bytes: a reader of the open
 -- contracts can skip this file.
-use Rattle.std.specs.Prelude.{Bool, true, false, cond, List, [], ◌∷◌, ℕ, suc, ltb}
+use Rattle.std.specs.Prelude.{Bool, true, false, cond, List, [], ◌∷◌, ℕ, suc, ltb, Some, None}
+use Rattle.std.specs.Prelude as answer
 use Rattle.std.proofs.Math.Option.{Option, none, some}
 use Rattle.pin_model.specs.Table.{NameRecord}
-use Rattle.pin_records.specs.declared.find.FoundKey.{FoundKey}
-use Rattle.pin_records.specs.declared.find.FoundKey.TheVariants as key-found
-use Rattle.pin_records.specs.declared.find.FoundName.{FoundName}
-use Rattle.pin_records.specs.declared.find.FoundName.TheVariants as name-found
 
 module _ {A : Type 0} where
   abbrev pub is_free : Option A → Bool
@@ -24,11 +21,8 @@ module _ {A : Type 0} where
   second_slot p (s ∷ slots) = suc (cond (p s) (first_slot p slots) (second_slot p slots))
 
 -- a place below the number of slots
-unfoldable pub key_found : ℕ → FoundKey
-key_found k = cond (ltb k 64) (key-found.At (record { 0 = k })) key-found.Nothing
-
-unfoldable pub name_found : ℕ → FoundName
-name_found n = cond (ltb n 128) (name-found.At (record { 0 = n })) name-found.Nothing
+unfoldable pub slot_found : ℕ → ℕ → answer.Option ℕ
+slot_found count k = cond (ltb k count) (Some k) None
 
 -- what stands in a slot, where it is used
 abbrev pub initial_at : Option NameRecord → ℕ

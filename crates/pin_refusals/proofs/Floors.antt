@@ -6,6 +6,7 @@ use mathlib.Core.Option.{Option, none}
 use Prim.Native.Nat.{ℕ}
 use lib.Dec.{ltb}
 use lib.ListN.{get_or}
+use Rattle.std.specs.Prelude.{Some, None}
 use Rattle.octets.proofs.Tests.{and_left}
 use Rattle.tack_extension.specs.Tack.{public_key, generation}
 use Rattle.pin_model.specs.Slots.{used}
@@ -14,21 +15,19 @@ use Rattle.pin_model.specs.Layout.{decode}
 use Rattle.pin_model.specs.Fits.{holds, floor_at}
 use Rattle.pin_model.specs.Refusals.{revoked}
 use Rattle.pin_model.proofs.Lists.{none-implied}
-use Rattle.pin_table.specs.declared.slots.KeySlot.{KeySlot}
 use Rattle.pin_records.specs.Holds.{Stored}
-use Rattle.pin_records.specs.Find.{first_slot, key_found}
-use Rattle.pin_records.specs.declared.find.FoundKey.TheVariants.{At, Nothing}
+use Rattle.pin_records.specs.Find.{first_slot, slot_found}
 use Rattle.pin_records.proofs.Found.{key-found-at, key-absent, found-any}
 
 -- what a search for the tack's key answers
 module _ {b : List ℕ} (s : Stored b) (tack key : List ℕ) (its : key ≡ public_key tack) where
-  pub not-revoked : Nothing ≡ key_found (first_slot (holds (key_is key)) (decode b).keys) → revoked (decode b) tack ≡ false
+  pub not-revoked : None ≡ slot_found 64 (first_slot (holds (key_is key)) (decode b).keys) → revoked (decode b) tack ≡ false
   not-revoked e =
       rw (← its) (none-implied (λ k. key_is key k && ltb (generation tack) k.floor) (key_is key)
       (λ k. and_left (key_is key k) (ltb (generation tack) k.floor)) (used (decode b).keys) (key-absent (decode b).keys s.fits.key_slots key e))
 
-  pub revoked-by : (k : KeySlot) → At k ≡ key_found (first_slot (holds (key_is key)) (decode b).keys)
-      → revoked (decode b) tack ≡ ltb (generation tack) (floor_at (get_or (decode b).keys k.0 none))
+  pub revoked-by : (k : ℕ) → Some k ≡ slot_found 64 (first_slot (holds (key_is key)) (decode b).keys)
+      → revoked (decode b) tack ≡ ltb (generation tack) (floor_at (get_or (decode b).keys k none))
   revoked-by k e =
       let x = key-found-at (decode b).keys s.fits.key_slots key k e in
       rw (← its) (found-any x (s.fits.key_once key) (λ r. ltb (generation tack) r.floor)

@@ -1,5 +1,4 @@
 pub mod Passed
-pub mod Clocks
 pub mod Shown
-pub mod Floors
 pub mod BreakBits
+pub mod Floors

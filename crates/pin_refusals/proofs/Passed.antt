@@ -6,13 +6,16 @@ use mathlib.Core.Option.{Option, none, some}
 use Prim.Native.Nat.{ℕ}
 use lib.ListN.{length}
 use borrow.Author.Tests.{eq-eqb}
+use Rattle.std.specs.Prelude as answer
+use Rattle.std.specs.Prelude.{Some, None, Err}
+use Rattle.std.specs.Option.{ok_or}
 use Rattle.octets.specs.Octets.{Bytes}
-use Rattle.host_name.specs.Name.{well_formed}
+use Rattle.octets.proofs.Options.{clash}
 use Rattle.pin_model.specs.Layout.{area_length, encode, decode}
 use Rattle.pin_model.specs.Sound.{sound}
 use Rattle.pin_model.specs.SoundTable.{sound_table}
-use Rattle.pin_model.specs.Refusals.{first, area_tests, name_test}
-use Rattle.pin_model.specs.Calls.{Call, in_two, judgement, refusal, unrefused, table_after, answer_by, answer, refused_area, area_after}
+use Rattle.pin_model.specs.Refusals.{first, area_tests}
+use Rattle.pin_model.specs.Calls.{Call, in_two, judgement, area_tests_of, table_tests_of, refusal, unrefused, table_after, answer_by, answer, refused_area, area_after}
 use Rattle.pin_model.proofs.Rules.{rules-of}
 use Rattle.pin_model.proofs.First.{first-here, first-later}
 use Rattle.pin_model.proofs.Refusals.{AreaFacts, area-facts}
@@ -25,19 +28,29 @@ use Rattle.pin_records.specs.Holds.{Stored}
 pub area-passes : (b : List ℕ) → sound b ≡ true → first (area_tests b) ≡ none
 area-passes b h = simp (eq-eqb (length b) area_length (rules-of b h).whole, h)
 
--- 10 to 12, by what 10 and 11 give and by the name
-module _ (b name : List ℕ) where
-  pub named-refused : (n : ℕ) → first (area_tests b) ≡ some n → first (area_tests b ++ name_test name) ≡ some n
-  named-refused n e = first-here (area_tests b) (name_test name) n e
+-- what stands for a value that is missing
+pub given-error : {T E : Type 0} (o : answer.Option T) {x r : E} → Err r ≡ ok_or o x → o ≡ None → r ≡ x
+given-error None e d = cc
+given-error (Some t) e d = clash (cc)
 
-  module _ (passed : first (area_tests b) ≡ none) where
-    pub named-malformed : well_formed name ≡ false → first (area_tests b ++ name_test name) ≡ some 12
-    named-malformed e = first-later (area_tests b) (name_test name) passed ∙ simp e
+-- tests in stages: a number that is the first of a stage's and the later tests'
+module _ {o : Option ℕ} (tests later : List (Bool × ℕ)) (e : o ≡ first (tests ++ later)) where
+  pub refuses-here : {n : ℕ} → some n ≡ first tests → o ≡ some n
+  refuses-here {n} d = e ∙ first-here tests later n (sym d)
 
-    pub named-passes : well_formed name ≡ true → first (area_tests b ++ name_test name) ≡ none
-    named-passes e = first-later (area_tests b) (name_test name) passed ∙ simp e
+  pub passes-on : none ≡ first tests → o ≡ first later
+  passes-on d = e ∙ first-later tests later (sym d)
 
 module _ (call : Call) (b : List ℕ) where
+  -- the tests of the area come first, then those of the table
+  pub refused-by-area : (n : ℕ) → first (area_tests_of call b) ≡ some n → refusal call b ≡ some n
+  unfolding refusal
+  refused-by-area n e = first-here (area_tests_of call b) (table_tests_of call (decode b)) n e
+
+  pub behind-area : first (area_tests_of call b) ≡ none → refusal call b ≡ first (table_tests_of call (decode b))
+  unfolding refusal
+  behind-area e = first-later (area_tests_of call b) (table_tests_of call (decode b)) e
+
   answer-by : (o : Option ℕ) → refusal call b ≡ o → answer call b ≡ answer_by (in_two call) o (unrefused call (decode b))
   unfolding answer
   answer-by o e = ap (λ (o : Option ℕ). answer_by (in_two call) o (unrefused call (decode b))) e

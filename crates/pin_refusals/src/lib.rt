@@ -1,4 +1,5 @@
-// The refusals, in the paper's order: 10 to 12 of the area and the name, 14 to 17 of a connection, 18 to 23 of its tack.
+// The refusals, in the paper's order: 10 to 13 of the area, the name and the clock, 14, 15 and 17 of a connection, 18 to 23 of its tack.
+// 16 is what the reader of an extension finds.
 #![tactic(auto)]
 
 pub mod area;

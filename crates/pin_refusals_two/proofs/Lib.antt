@@ -1,1 +1,2 @@
-pub mod TackTests
+pub mod OneKey
+pub mod SecondTack

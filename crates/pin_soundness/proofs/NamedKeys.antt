@@ -19,15 +19,15 @@ or_no : (x y : Bool) → y ≡ false → x ≡ (x || y)
 or_no true y e = refl
 or_no false y e = sym e
 
-pub none-marked : (b : List ℕ) → KeysMarked b (replicate 256 0) 0
+pub none-marked : (b : List ℕ) → KeysMarked b (replicate 256 false) 0
 unfolding some
 none-marked b =
     record {
-      size = length-replicate {A = ℕ} 256 0;
-      right = λ k l. ap (λ (x : ℕ). eqb x 1) (get_or-replicate 256 k 0 0 (omega arith));
+      size = length-replicate {A = Bool} 256 false;
+      right = λ k l. get_or-replicate 256 k false false (omega arith);
     }
 
-module _ (b marks : List ℕ) (n : ℕ) (a : KeysMarked b marks n) where
+module _ (b : List ℕ) (marks : List Bool) (n : ℕ) (a : KeysMarked b marks n) where
   pub marked-free : is_used (name_slot b n) ≡ false → KeysMarked b marks (n + 1)
   unfolding refers_to
   marked-free f =
@@ -36,20 +36,20 @@ module _ (b marks : List ℕ) (n : ℕ) (a : KeysMarked b marks n) where
         right = λ k l. a.right k l ∙ or_no (some (λ m. refers_to k (name_slot b m)) n) (refers_to k (name_slot b n)) (rw f) ∙ sym (some_more (λ m. refers_to k (name_slot b m)) n);
       }
 
-  pub marked-used : (i : ℕ) → i ≡ key_number (name_slot b n) → i < 256 → is_used (name_slot b n) ≡ true → KeysMarked b (set marks i 1) (n + 1)
+  pub marked-used : (i : ℕ) → i ≡ key_number (name_slot b n) → i < 256 → is_used (name_slot b n) ≡ true → KeysMarked b (set marks i true) (n + 1)
   unfolding refers_to
   marked-used i e l u =
       record {
-        size = length-set marks i 1 ∙ a.size;
+        size = length-set marks i true ∙ a.size;
         right = λ k h.
             by_test (eqb k i)
             (λ q.
             let w : k ≡ i = eqb-true k i q in
-            ap (λ (j : ℕ). eqb (get_or (set marks i 1) j 0) 1) w ∙ ap (λ (x : ℕ). eqb x 1) (get_or-set_same marks i 1 0 (omega (arith, a.size)))
+            ap (λ (j : ℕ). get_or (set marks i true) j false) w ∙ get_or-set_same marks i true false (omega (arith, a.size))
             ∙ sym (some-true (λ m. refers_to k (name_slot b m)) (n + 1) n (omega arith) (rw u (eq-eqb _ _ (sym e ∙ sym w)))))
             (λ q.
             let w : k ≡ i → ⊥ = eqb-false k i q in
-            ap (λ (x : ℕ). eqb x 1) (get_or-set_other marks i k 1 0 w) ∙ a.right k h
+            get_or-set_other marks i k true false w ∙ a.right k h
             ∙ or_no (some (λ m. refers_to k (name_slot b m)) n) (refers_to k (name_slot b n)) (rw u (ne_eqb _ _ (λ z. w (sym z ∙ sym e))))
             ∙ sym (some_more (λ m. refers_to k (name_slot b m)) n));
       }

@@ -1,14 +1,13 @@
 // What must hold of key slots by themselves.
-ghost use Rattle.std.specs.Prelude.{◌≡◌, length};
-ghost use Rattle.pin_model.specs.Layout.{area_length};
+ghost use Rattle.std.specs.Prelude.{◌≡◌};
 ghost use Rattle.pin_model.specs.Sound.{key_shaped, keys_shaped};
 
 use pin_table::slots;
-use pin_table::slots::{KEY_SLOT_LENGTH, KEY_SLOTS, KeySlot};
+use pin_table::slots::{Area, KEY_SLOT_LENGTH, KEY_SLOTS, KeySlot};
 
 // A used slot has six zeros behind its floor, a free one is all zero.
-pub fn key_shaped(s: &[u8]) -> bool
-    requires { length s.now ≡ 72 }
+#[tactic(auto, using(crate::proofs::Rules::zeros_whole), unfolding(pin_model::specs::Sound::key_shaped))]
+pub fn key_shaped(s: &[u8; KEY_SLOT_LENGTH]) -> bool
     ensures { result ≡ key_shaped s.now }
 {
     if slots::is_used(s) {
@@ -17,17 +16,8 @@ pub fn key_shaped(s: &[u8]) -> bool
     octets::zeros_at(s, 0, KEY_SLOT_LENGTH)
 }
 
-pub fn keys_shaped(area: &[u8]) -> bool
-    requires { length area.now ≡ area_length }
+pub fn keys_shaped(area: &Area) -> bool
     ensures { result ≡ keys_shaped area.now }
 {
-    let mut k = 0;
-    while k < KEY_SLOTS {
-        let s = slots::key_slot(area, KeySlot(k));
-        if !key_shaped(s) {
-            return false;
-        }
-        k += 1;
-    }
-    true
+    (0..KEY_SLOTS).all(|k| key_shaped(slots::key_slot(area, KeySlot::at(k))))
 }

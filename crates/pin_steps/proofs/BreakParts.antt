@@ -1,14 +1,13 @@
 -- The loop over the break signatures: the area after the first i of them.
 use mathlib.Core.Path.{◌≡◌, refl, sym, ◌∙◌, ap, subst}
 use mathlib.Core.List.{List, [], ◌∷◌, ◌++◌, map, map-append}
-use Prim.Native.Nat.{ℕ, zero, suc, ◌+◌, ◌*◌, ◌/◌, ◌≤◌, ◌<◌}
+use Prim.Native.Nat.{ℕ, zero, suc, ◌+◌, ◌/◌, ◌≤◌, ◌<◌}
 use native.Mathlib.Numerals.{add-one}
 use native.Mathlib.Omega.{arith}
 use lib.ListN.{length, get_or, take, drop}
 use lib.Seq.{take-suc, take_all}
-use Rattle.octets.proofs.Parts.{part_length}
+use Rattle.std.specs.Simd.{first_chunks}
 use Rattle.tack_extension.specs.Tack.{break_key, each_break, break_signatures}
-use Rattle.tack_extension.proofs.BreakSignatures.{break-at}
 use Rattle.pin_model.specs.Table.{Table}
 use Rattle.pin_model.specs.Layout.{decode}
 use Rattle.pin_model.specs.Judge.{break}
@@ -25,13 +24,15 @@ count-breaks : (b : List ℕ) → length (break_signatures b) ≡ length b / 128
 unfolding break_signatures
 count-breaks b = each-length (length b / 128) b
 
--- a break signature and its key
-pub signed-length : (b : List ℕ) (i : ℕ) {s : List ℕ} → s ≡ get_or (break_signatures b) i [] → 128 * i + 128 ≤ length b → length s ≡ 128
-signed-length b i e l = ap length (e ∙ break-at b i l) ∙ part_length b (128 * i) 128 (omega arith)
+-- the chunks of 128 bytes are the break signatures
+each-chunk : (n : ℕ) (b : List ℕ) → first_chunks 128 n b ≡ each_break n b
+unfolding each_break
+each-chunk zero b = refl
+each-chunk (suc n) b = ap (λ (l : List (List ℕ)). take 128 b ∷ l) (each-chunk n (drop 128 b))
 
-pub broken-length : (s : List ℕ) {key : List ℕ} → key ≡ break_key s → length s ≡ 128 → length key ≡ 64
-unfolding break_key
-broken-length s e l = ap length e ∙ part_length s 0 64 (omega arith)
+pub signed-chunks : (b : List ℕ) → first_chunks 128 (length b / 128) b ≡ break_signatures b
+unfolding break_signatures
+signed-chunks b = each-chunk (length b / 128) b
 
 -- the keys of the first i break signatures
 abbrev pub first_broken : List ℕ → ℕ → List (List ℕ)

@@ -3,6 +3,5 @@ pub mod Floors
 pub mod ActivePins
 pub mod PinnedTests
 pub mod LongerPins
-pub mod DroppedNames
 pub mod BrokenKeys
 pub mod BreakParts

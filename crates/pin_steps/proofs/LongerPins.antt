@@ -1,9 +1,9 @@
 -- Step 2(i) on an area: the pin of the name and the tack's key lasts longer, and no other.
-use mathlib.Core.Path.{◌≡◌, refl, sym, ◌∙◌, ap, subst}
+use mathlib.Core.Path.{◌≡◌, sym, ◌∙◌, ap}
 use mathlib.Core.Bool.{Bool, true, false, ◌&&◌}
 use mathlib.Core.List.{List}
-use mathlib.Core.Option.{Option, none, some}
-use Prim.Native.Nat.{ℕ, ◌+◌, ◌-◌, ◌≤◌, min}
+use mathlib.Core.Option.{Option, none}
+use Prim.Native.Nat.{ℕ, ◌≤◌}
 use native.Mathlib.Omega.{arith}
 use lib.ListN.{get_or, set}
 use Rattle.octets.specs.Octets.{any}
@@ -11,7 +11,7 @@ use Rattle.octets.proofs.Tests.{and_left, and_both}
 use Rattle.octets.proofs.Equal.{same-eq}
 use Rattle.tack_extension.specs.Tack.{public_key}
 use Rattle.pin_model.specs.Slots.{used}
-use Rattle.pin_model.specs.Table.{thirty_days, clock_limit, NameRecord, Table, settled_at, name_is, pinned_to}
+use Rattle.pin_model.specs.Table.{clock_limit, NameRecord, Table, settled_at, name_is, pinned_to}
 use Rattle.pin_model.specs.SoundTable.{sound_table}
 use Rattle.pin_model.specs.Judge.{extended_to, extend}
 use Rattle.pin_model.proofs.Lists.{none-implied, count-implied}
@@ -20,24 +20,10 @@ use Rattle.pin_model.proofs.Initials.{record-initial}
 use Rattle.pin_model.proofs.OneSlot.{changed-none, changed-set}
 use Rattle.pin_records.specs.Holds.{Holds, with_name}
 use Rattle.pin_records.specs.Find.{initial_at}
-use Rattle.pin_records.specs.Store.{with_end}
 use Rattle.pin_records.proofs.DistinctNames.{one-record}
 use Rattle.pin_records.proofs.Found.{FoundAt, found-any}
 use Rattle.pin_steps.specs.Steps.{extended_at}
 use Rattle.pin_steps.proofs.Tacks.{with-names}
-
--- the end as it is computed
-extended-slot : (clock : ℕ) (x : Option NameRecord) {end initial : ℕ} → initial ≡ initial_at x → end ≡ clock + min thirty_days (clock - initial)
-    → with_end end x ≡ extended_at clock x
-extended-slot clock none since until = refl
-extended-slot clock (some r) since until =
-    ap (λ (end : ℕ). with_end end (some r)) (until ∙ ap (λ (i : ℕ). clock + min thirty_days (clock - i)) since)
-
-pub extended-there : (t : Table) (n clock : ℕ) {d : List ℕ} {end initial : ℕ} → initial ≡ initial_at (get_or t.names n none)
-    → end ≡ clock + min thirty_days (clock - initial) → Holds d (with_name t n (with_end end (get_or t.names n none)))
-    → Holds d (with_name t n (extended_at clock (get_or t.names n none)))
-extended-there t n clock {d} since until g =
-    subst (λ (x : Option NameRecord). Holds d (with_name t n x)) (extended-slot clock (get_or t.names n none) since until) g
 
 module _ (name tack : List ℕ) (clock : ℕ) {b : List ℕ} {t : Table} (h : Holds b t) where
   -- the record has the name and the tack's key

@@ -1,5 +1,5 @@
 // Step 3: every key record named by a break signature goes, with all its names.
-ghost use Rattle.std.specs.Prelude.{◌≡◌, true, false, [], ◌∷◌, map, ◌<◌, length, get_or};
+ghost use Rattle.std.specs.Prelude.{◌≡◌, true, false, [], ◌∷◌, map, length, get_or};
 ghost use Rattle.std.proofs.Math.Option.{none};
 ghost use Rattle.tack_extension.specs.Extension.{breaks_length};
 ghost use Rattle.tack_extension.specs.Tack.{break_key, break_signatures};
@@ -10,30 +10,23 @@ ghost use Rattle.pin_model.specs.Judge.{break};
 ghost use Rattle.pin_records.specs.Holds.{Holds, Stored};
 ghost use Rattle.pin_records.specs.Find.{is_free};
 
-use pin_records::find::FoundKey;
 use pin_records::{find, read, remove};
-use pin_table::slots::{KeySlot, NAME_SLOTS, NameSlot};
+use pin_table::slots::KeySlot;
 use tack_extension::fields;
 
 // The names of a recorded key go.
 fn drop_names(area: &mut [u8], k: KeySlot)
-    requires { Stored area.old × (k.0 < 64) × (is_free (get_or (decode area.old).keys k.0 none) ≡ false) }
-    ensures { Holds area.new (holding (decode area.old) (decode area.old).keys (freed (pinned_to (key_at (get_or (decode area.old).keys k.0 none))) (decode area.old).names)) }
+    requires { Stored area.old × (is_free (get_or (decode area.old).keys k none) ≡ false) }
+    ensures { Holds area.new (holding (decode area.old) (decode area.old).keys (freed (pinned_to (key_at (get_or (decode area.old).keys k none))) (decode area.old).names)) }
 {
-    let mut n = 0;
-    while n < NAME_SLOTS {
-        if read::refers_to(area, NameSlot(n), k) {
-            remove::clear_name(area, NameSlot(n));
-        }
-        n += 1;
-    }
+    remove::clear_names(area, |area, n| read::refers_to(area, n, k));
 }
 
-fn break_key(area: &mut [u8], key: &[u8])
-    requires { Stored area.old × (length key.now ≡ 64) }
+fn break_key(area: &mut [u8], key: &[u8; 64])
+    requires { Stored area.old }
     ensures { Holds area.new (break (key.now ∷ []) (decode area.old)) }
 {
-    let FoundKey::At(k) = find::find_key(area, key) else {
+    let Some(k) = find::find_key(area, key) else {
         return;
     };
     drop_names(area, k);
@@ -45,10 +38,7 @@ pub fn break_keys(area: &mut [u8], breaks: &[u8])
     requires { Stored area.old × (breaks_length (length breaks.now) ≡ true) }
     ensures { Holds area.new (break (map break_key (break_signatures breaks.now)) (decode area.old)) }
 {
-    let count = breaks.len() / 128;
-    let mut i = 0;
-    while i < count {
-        break_key(area, fields::break_key(fields::break_signature(breaks, i)));
-        i += 1;
+    for signed in breaks.as_chunks::<128>().0 {
+        break_key(area, fields::break_key(signed));
     }
 }

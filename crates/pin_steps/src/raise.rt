@@ -1,18 +1,17 @@
 // Step 1: the floor of the tack's key rises to the tack's min_generation.
-ghost use Rattle.std.specs.Prelude.{◌≡◌, length};
 ghost use Rattle.pin_model.specs.Layout.{decode};
 ghost use Rattle.pin_model.specs.Judge.{raise};
 ghost use Rattle.pin_records.specs.Holds.{Holds, Stored};
 
-use pin_records::find::FoundKey;
 use pin_records::{find, read, store};
 use tack_extension::fields;
+use tack_extension::fields::Tack;
 
-pub fn raise_floor(area: &mut [u8], tack: &[u8])
-    requires { Stored area.old × (length tack.now ≡ 166) }
+pub fn raise_floor(area: &mut [u8], tack: &Tack)
+    requires { Stored area.old }
     ensures { Holds area.new (raise tack.now (decode area.old)) }
 {
-    let FoundKey::At(k) = find::find_key(area, fields::public_key(tack)) else {
+    let Some(k) = find::find_key(area, fields::public_key(tack)) else {
         return;
     };
     let least = fields::min_generation(tack);

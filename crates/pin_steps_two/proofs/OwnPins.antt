@@ -25,18 +25,17 @@ use Rattle.pin_model.proofs.Initials.{record-initial}
 use Rattle.pin_model.proofs.SoundFacts.{sound-facts, facts-sound}
 use Rattle.pin_model.proofs.SoundTwo.{Stage, each-stage}
 use Rattle.pin_model.proofs.OneSlot.{changed-set}
-use Rattle.pin_table.specs.declared.slots.NameSlot.{NameSlot}
+use Rattle.std.specs.Prelude.{Some, None}
 use Rattle.pin_records.specs.Holds.{Holds, with_name}
-use Rattle.pin_records.specs.Find.{is_free, first_slot, name_found, initial_at}
+use Rattle.pin_records.specs.Find.{is_free, first_slot, slot_found, initial_at}
 use Rattle.pin_records.specs.Store.{Fresh}
-use Rattle.pin_records.specs.declared.find.FoundName.TheVariants as name-found
 use Rattle.pin_records.proofs.Placed.{Used, is-used, holds-used, first_passes, first_absent}
 use Rattle.pin_records.proofs.HeldSlots.{holds-decode}
-use Rattle.pin_records.proofs.Found.{FreeAt, name-there, name-not-there}
-use Rattle.pin_refusals_two.specs.Parts.{tacks_by}
+use Rattle.pin_records.proofs.Found.{FreeAt, slot-there, slot-not-there}
 use Rattle.pin_steps.specs.Steps.{extended_at, with_keys}
 use Rattle.pin_steps.proofs.Tacks.{with-names}
 use Rattle.pin_steps_two.specs.SettledTwo.{SettledTwo}
+use Rattle.pin_steps_two.proofs.ShownTacks.{tacks_by}
 
 -- slot n is the record of the name and the key
 pub record PinAt (name key : List ℕ) (names : List (Option NameRecord)) (n : ℕ) : Type 0 where
@@ -51,34 +50,34 @@ module _ (name : List ℕ) {key key' : List ℕ} (same_key : key ≡ key') (name
   abbrev found : ℕ
   found = first_slot (holds (pin_is name key)) names
 
-  pub pin_at : (n : NameSlot) → name-found.At n ≡ name_found found → PinAt name key' names n.0
-  pin_at n e = subst (λ (k : List ℕ). PinAt name k names n.0) same_key at
+  pub pin_at : (n : ℕ) → Some n ≡ slot_found 128 found → PinAt name key' names n
+  pin_at n e = subst (λ (k : List ℕ). PinAt name k names n) same_key at
     where
-      place : (found < 128) × (found ≡ n.0)
-      place = name-there found n e
+      place : (found < 128) × (found ≡ n)
+      place = slot-there 128 found n e
 
-      here : holds (pin_is name key) (get_or names n.0 none) ≡ true
+      here : holds (pin_is name key) (get_or names n none) ≡ true
       here = ap (λ (i : ℕ). holds (pin_is name key) (get_or names i none)) (sym place.1) ∙ first_passes (holds (pin_is name key)) names (omega (arith, place.0))
 
-      used-slot : is_free (get_or names n.0 none) ≡ false
-      used-slot = holds-used (pin_is name key) (get_or names n.0 none) here
+      used-slot : is_free (get_or names n none) ≡ false
+      used-slot = holds-used (pin_is name key) (get_or names n none) here
 
-      at : PinAt name key names n.0
+      at : PinAt name key names n
       at =
-          let u : Used (get_or names n.0 none) = is-used (get_or names n.0 none) used-slot in
+          let u : Used (get_or names n none) = is-used (get_or names n none) used-slot in
           record {
             below = omega (arith, place.0, place.1);
             what = u.what;
             there = u.there;
             its = sym (ap (holds (pin_is name key)) u.there) ∙ here;
             in_use = used-slot;
-            recorded = any_at (pin_is name key) names n.0 here;
+            recorded = any_at (pin_is name key) names n here;
           }
 
-  pub pin-absent : name-found.Nothing ≡ name_found found → any (pin_is name key') (used names) ≡ false
+  pub pin-absent : None ≡ slot_found 128 found → any (pin_is name key') (used names) ≡ false
   pin-absent e =
       ap (λ (k : List ℕ). any (pin_is name k) (used names)) (sym same_key)
-      ∙ any_none (pin_is name key) names (first_absent (holds (pin_is name key)) names (omega (arith, name-not-there found e)))
+      ∙ any_none (pin_is name key) names (first_absent (holds (pin_is name key)) names (omega (arith, slot-not-there 128 found e)))
 
 -- such a table by its facts, and the clock of a call, which latest is
 pub to-stage : {clock : ℕ} {t : Table} → SettledTwo clock t → Stage clock t
@@ -159,40 +158,21 @@ module _ (name : List ℕ) (clock : ℕ) (t : Table) (d : List ℕ) where
   abbrev pub Learned : List Shown → Bool → Type 0
   Learned tacks lacks = (lacks ≡ no_room_each name clock tacks t) × Holds d (learn_each name clock tacks t)
 
-  pub learned-none : (enabled : Bool) (tack : List ℕ) → length tack ≡ 0 → Holds d t → Learned (shown_in enabled tack) false
-  learned-none enabled [] e h = (refl, h)
-  learned-none enabled (b ∷ bs) e h = absurd (omega arith)
+  pub learned-extended : (tack : List ℕ) → length tack ≡ 166 → has_own name tack t ≡ true → Holds d (extend true name clock tack t)
+      → Learned (shown_in true tack) false
+  learned-extended [] l own h = absurd (omega arith)
+  learned-extended (b ∷ bs) l own h = (
+    sym (ap (λ (has : Bool). ((not has && ltb (count (name_is name) (used t.names)) 2) && not (room_of (b ∷ bs) t)) || false) own),
+    subst (λ (has : Bool). Holds d (cond has (extend true name clock (b ∷ bs) t) (make_own name clock (b ∷ bs) t))) (sym own) h,
+  )
 
-  pub learned-disabled : (on : Bool) → on ≡ false → (tack : List ℕ) → Holds d t → Learned (shown_in on tack) false
-  learned-disabled on e tack h = subst (λ (b : Bool). Learned (shown_in b tack) false) (sym e) (go tack)
-    where
-      go : (tack : List ℕ) → Learned (shown_in false tack) false
-      go [] = (refl, h)
-      go (b ∷ bs) = (refl, h)
-
-  pub learned-extended : (on : Bool) → on ≡ true → (tack : List ℕ) → length tack ≡ 166 → has_own name tack t ≡ true
-      → Holds d (extend true name clock tack t) → Learned (shown_in on tack) false
-  learned-extended on e tack l own h = subst (λ (b : Bool). Learned (shown_in b tack) false) (sym e) (go tack l own h)
-    where
-      go : (tack : List ℕ) → length tack ≡ 166 → has_own name tack t ≡ true → Holds d (extend true name clock tack t)
-          → Learned (shown_in true tack) false
-      go [] l own h = absurd (omega arith)
-      go (b ∷ bs) l own h = (
-        sym (ap (λ (has : Bool). ((not has && ltb (count (name_is name) (used t.names)) 2) && not (room_of (b ∷ bs) t)) || false) own),
-        subst (λ (has : Bool). Holds d (cond has (extend true name clock (b ∷ bs) t) (make_own name clock (b ∷ bs) t))) (sym own) h,
-      )
-
-  pub learned-made : (on : Bool) → on ≡ true → (tack : List ℕ) {lacks : Bool} → length tack ≡ 166 → has_own name tack t ≡ false
-      → (lacks ≡ (wants_own name tack t && not (room_of tack t))) × Holds d (make_own name clock tack t) → Learned (shown_in on tack) lacks
-  learned-made on e tack {lacks} l none-own r = subst (λ (b : Bool). Learned (shown_in b tack) lacks) (sym e) (go tack l none-own r)
-    where
-      go : (tack : List ℕ) → length tack ≡ 166 → has_own name tack t ≡ false
-          → (lacks ≡ (wants_own name tack t && not (room_of tack t))) × Holds d (make_own name clock tack t) → Learned (shown_in true tack) lacks
-      go [] l own r = absurd (omega arith)
-      go (b ∷ bs) l own r = (
-        r.0 ∙ sym (or-false (wants_own name (b ∷ bs) t && not (room_of (b ∷ bs) t))),
-        subst (λ (has : Bool). Holds d (cond has (extend true name clock (b ∷ bs) t) (make_own name clock (b ∷ bs) t))) (sym own) r.1,
-      )
+  pub learned-made : (tack : List ℕ) {lacks : Bool} → length tack ≡ 166 → has_own name tack t ≡ false
+      → (lacks ≡ (wants_own name tack t && not (room_of tack t))) × Holds d (make_own name clock tack t) → Learned (shown_in true tack) lacks
+  learned-made [] l own r = absurd (omega arith)
+  learned-made (b ∷ bs) l own r = (
+    r.0 ∙ sym (or-false (wants_own name (b ∷ bs) t && not (room_of (b ∷ bs) t))),
+    subst (λ (has : Bool). Holds d (cond has (extend true name clock (b ∷ bs) t) (make_own name clock (b ∷ bs) t))) (sym own) r.1,
+  )
 
 -- some tacks, and then others
 module _ (name : List ℕ) (clock : ℕ) where

@@ -15,10 +15,9 @@ use Rattle.pin_model.specs.Calls as calls
 use Rattle.pin_model.proofs.SoundTwo.{removed-stage}
 use Rattle.pin_records.specs.Holds.{Holds, without_unnamed}
 use Rattle.pin_records.proofs.HeldSlots.{holds-decode}
-use Rattle.pin_refusals_two.specs.Parts.{tacks_by, both_tacks}
 use Rattle.pin_steps_two.specs.SettledTwo.{SettledTwo}
 use Rattle.pin_steps_two.specs.StepsTwo.{steps_two, steps_answer_two}
-use Rattle.pin_steps_two.proofs.ShownTacks.{raised_at-same}
+use Rattle.pin_steps_two.proofs.ShownTacks.{tacks_by, both_tacks, raised_at-same}
 use Rattle.pin_steps_two.proofs.OwnPins.{to-stage, from-stage}
 
 module _ (name : List ℕ) (clock : ℕ) (tacks : List Shown) (t : Table) (d : List ℕ) where

@@ -1,6 +1,6 @@
 -- What a call's tacks say of a record, part by part.
 use mathlib.Core.Path.{◌≡◌, refl, sym, ◌∙◌, ap, ap₂, subst}
-use mathlib.Core.Bool.{Bool, true, false, not, ◌&&◌, ◌||◌, or-false, true≢false, false≢true}
+use mathlib.Core.Bool.{Bool, true, false, not, ◌&&◌, ◌||◌, or-false}
 use mathlib.Core.List.{List, [], ◌∷◌, ◌++◌}
 use mathlib.Core.Option.{Option, none, some}
 use Prim.Native.Nat.{ℕ}
@@ -19,17 +19,17 @@ use Rattle.pin_model.specs.Judge.{raise, active_of}
 use Rattle.pin_model.specs.JudgeTwo.{contradicted, raise_each, raised_at}
 use Rattle.pin_model.proofs.Lists.{any-ext, any_append}
 use Rattle.pin_records.specs.Holds.{Holds}
-use Rattle.pin_records.specs.Find.{is_free}
 use Rattle.pin_records.proofs.HeldSlots.{holds-decode}
-use Rattle.pin_refusals_two.specs.Parts.{tacks_by, both_tacks}
 use Rattle.pin_steps_two.specs.Shown.{shown_for, enabled_for}
 
--- one tack
-pub shows-none : (tack : List ℕ) → length tack ≡ 0 → (x : Option NameRecord) → false ≡ holds (shown_for (shown_in true tack)) x
-shows-none [] e none = refl
-shows-none [] e (some r) = refl
-shows-none (b ∷ bs) e x = absurd (omega arith)
+-- the tacks by their bytes, each with its flag, and as a step has them that looks at no flag
+abbrev pub tacks_by : List ℕ → List ℕ → ℕ → List Shown
+tacks_by first second flags = tacks_in (parts_two first second flags)
 
+abbrev pub both_tacks : List ℕ → List ℕ → List Shown
+both_tacks first second = shown_in true first ++ shown_in true second
+
+-- one tack
 pub shows-whole : (tack : List ℕ) → length tack ≡ 166 → {key : List ℕ} → key ≡ public_key tack → (x : Option NameRecord)
     → holds (pinned_to key) x ≡ holds (shown_for (shown_in true tack)) x
 shows-whole [] l its x = absurd (omega arith)
@@ -42,40 +42,6 @@ any_flag : (enabled : Bool) (tack k : List ℕ) → key_shown (shown_in enabled 
 any_flag enabled [] k = refl
 any_flag enabled (b ∷ bs) k = refl
 
-disabled : (tack : List ℕ) (x : Option NameRecord) → false ≡ holds (enabled_for (shown_in false tack)) x
-disabled [] none = refl
-disabled [] (some r) = refl
-disabled (b ∷ bs) none = refl
-disabled (b ∷ bs) (some r) = refl
-
-enabled : (tack : List ℕ) (x : Option NameRecord) → holds (shown_for (shown_in true tack)) x ≡ holds (enabled_for (shown_in true tack)) x
-enabled [] none = refl
-enabled [] (some r) = refl
-enabled (b ∷ bs) none = refl
-enabled (b ∷ bs) (some r) = refl
-
-pub enabled-none : (on : Bool) → on ≡ false → (tack : List ℕ) (x : Option NameRecord) → false ≡ holds (enabled_for (shown_in on tack)) x
-enabled-none on e tack x = disabled tack x ∙ ap (λ (b : Bool). holds (enabled_for (shown_in b tack)) x) (sym e)
-
-pub enabled-shown : (on : Bool) → on ≡ true → (tack : List ℕ) (x : Option NameRecord)
-    → holds (shown_for (shown_in true tack)) x ≡ holds (enabled_for (shown_in on tack)) x
-enabled-shown on e tack x = enabled tack x ∙ ap (λ (b : Bool). holds (enabled_for (shown_in b tack)) x) (sym e)
-
--- tests of a used slot
-module _ {A : Type 0} where
-  pub not-held : (p : A → Bool) (x : Option A) → is_free x ≡ false → not (holds p x) ≡ holds (λ a. not (p a)) x
-  not-held p none u = absurd (true≢false u)
-  not-held p (some a) u = refl
-
-  module _ (named live on : A → Bool) where
-    pub live-stays : (x : Option A) → holds named x ≡ true → holds live x ≡ true → false ≡ holds (λ a. named a && (not (live a) && not (on a))) x
-    live-stays none e f = refl
-    live-stays (some a) e f = sym (ap₂ (λ (n l : Bool). n && (not l && not (on a))) e f)
-
-    pub ended_by : (x : Option A) → holds named x ≡ true → holds live x ≡ false → not (holds on x) ≡ holds (λ a. named a && (not (live a) && not (on a))) x
-    ended_by none e f = absurd (false≢true e)
-    ended_by (some a) e f = sym (ap₂ (λ (n l : Bool). n && (not l && not (on a))) e f)
-
 -- two tests of a slot, one of which is enough
 module _ {A : Type 0} (p q both : A → Bool) (split : (a : A) → both a ≡ (p a || q a)) where
   pub by_first : (x : Option A) → holds p x ≡ true → true ≡ holds both x
@@ -87,9 +53,6 @@ module _ {A : Type 0} (p q both : A → Bool) (split : (a : A) → both a ≡ (p
   by-second (some a) e = sym (split a ∙ ap (λ (b : Bool). b || q a) e)
 
 module _ (first second : List ℕ) where
-  pub shown-split : (r : NameRecord) → shown_for (both_tacks first second) r ≡ (shown_for (shown_in true first) r || shown_for (shown_in true second) r)
-  shown-split r = any_append (λ s. same (public_key s.tack) r.key) (shown_in true first) (shown_in true second)
-
   module _ (flags : ℕ) where
     abbrev on-first : Bool
     on-first = enables_first (parts_two first second flags)
@@ -129,15 +92,7 @@ module _ (first second : List ℕ) where
     pub raised_at-same : (clock : ℕ) (t : Table) → raised_at clock (both_tacks first second) t ≡ raised_at clock (tacks_by first second flags) t
     raised_at-same clock t = ap (settled_at clock) (raised-same t)
 
--- floors raised by one tack, and by the next
-pub raised-none : {d : List ℕ} (tack : List ℕ) (t : Table) → length tack ≡ 0 → Holds d t → Holds d (raise_each (shown_in true tack) t)
-raised-none [] t e h = h
-raised-none (b ∷ bs) t e h = absurd (omega arith)
-
-pub raised-one : {d : List ℕ} (tack : List ℕ) (t : Table) → length tack ≡ 166 → Holds d (raise tack t) → Holds d (raise_each (shown_in true tack) t)
-raised-one [] t e h = absurd (omega arith)
-raised-one (b ∷ bs) t e h = h
-
+-- floors raised by some tacks, and then by others
 raise-append : (l m : List Shown) (t : Table) → raise_each (l ++ m) t ≡ raise_each m (raise_each l t)
 raise-append [] m t = refl
 raise-append (s ∷ l) m t = raise-append l m (raise s.tack t)

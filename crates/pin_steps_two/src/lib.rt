@@ -1,5 +1,5 @@
 // The steps of judging in edition two, in the paper's order, each on an area that stores a table. The two tacks of a call come as
-// two parts of its extension; an empty part is no tack.
+// the reader gives them.
 #![tactic(auto)]
 
 pub mod apply;

@@ -1,5 +1,6 @@
-// The pin table in a lent area: minutes, and where its slots and their fields lie.
+// The pin table in a lent area: minutes, the numbers of its slots, and where the slots and their fields lie.
 #![tactic(auto)]
 
 pub mod minutes;
+pub mod slot;
 pub mod slots;

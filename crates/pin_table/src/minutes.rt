@@ -1,18 +1,11 @@
 // Minutes since 1970: a kind of number of their own, so that no slot is added to a clock.
-ghost use Rattle.std.specs.Prelude.{◌≡◌, ◌+◌, ◌-◌, ◌≤◌, min, length, leb};
+ghost use Rattle.std.specs.Prelude.{◌≡◌, ◌+◌, ◌-◌, ◌≤◌, min, length};
 ghost use Rattle.octets.specs.Octets.{part, number};
 ghost use Rattle.pin_model.specs.Table.{thirty_days, clock_limit};
 ghost use Rattle.pin_table.specs.Clocks.{clock_of};
 
-#[derive(Clone, Copy)]
+#[derive(Clone, Copy, PartialEq, Eq, PartialOrd, Ord)]
 pub struct Minutes(u32);
-
-// A caller's clock: its minutes, unless it is above the limit.
-#[derive(Clone, Copy)]
-pub enum Clock {
-    At(Minutes),
-    AboveLimit,
-}
 
 impl Minutes {
     pub const THIRTY_DAYS: Minutes = Minutes(43200);
@@ -20,14 +13,16 @@ impl Minutes {
     // The last clock that thirty days can be added to.
     pub const CLOCK_LIMIT: Minutes = Minutes(4294924095);
 
-    pub fn of_clock(clock: u64) -> Clock
+    // A caller's clock, unless it is above the limit.
+    #[tactic(auto, unfolding(crate::specs::Clocks::clock_of), using(std::proofs::lemmas::Bool::Decides::nat_tests))]
+    pub fn of_clock(clock: u64) -> Option<Minutes>
         ensures { result ≡ clock_of clock }
     {
         let limit = Minutes::CLOCK_LIMIT;
-        if clock <= (limit.0 as u64) {
-            return Clock::At(Minutes(clock as u32));
+        if clock > u64::from(limit.0) {
+            return None;
         }
-        Clock::AboveLimit
+        Some(Minutes(clock as u32))
     }
 
     pub fn count(self) -> u32
@@ -49,12 +44,8 @@ impl Minutes {
         requires { (initial.0 ≤ self.0) × (self.0 ≤ clock_limit) }
         ensures { result.0 ≡ self.0 + min thirty_days (self.0 - initial.0) }
     {
-        let since = self.0 - initial.0;
         let days = Minutes::THIRTY_DAYS;
-        if days.0 < since {
-            return self.later();
-        }
-        Minutes(self.0 + since)
+        Minutes(self.0 + days.0.min(self.0 - initial.0))
     }
 }
 
@@ -63,11 +54,5 @@ pub fn minutes_at(s: &[u8], at: usize) -> Minutes
     requires { at + 4 ≤ length s.now }
     ensures { result.0 ≡ number (part s.now at 4) }
 {
-    Minutes(octets::u32_at(s, at))
-}
-
-pub fn not_after(a: Minutes, b: Minutes) -> bool
-    ensures { result ≡ leb a.0 b.0 }
-{
-    a.0 <= b.0
+    Minutes(octets::number_at::<4>(s, at))
 }

@@ -1,15 +1,21 @@
 // Where things lie in the area: slots and their fields.
-ghost use Rattle.std.specs.Prelude.{◌≡◌, ◌<◌, length};
+ghost use Rattle.std.specs.Prelude.{◌≡◌, ◌+◌, ◌*◌, ◌<◌, ◌≤◌, length};
 ghost use Rattle.octets.specs.Octets.{part};
 ghost use Rattle.pin_model.specs.Layout.{area_length, latest_in, of_two, key_slot, name_slot, is_used, key_in, key_number, name_length, initial_in, end_in, name_in};
 ghost use Rattle.pin_model.specs.Sound.{refers_to};
 
 use crate::minutes;
 use crate::minutes::Minutes;
+use crate::slot::Slot;
 
 pub const KEY_SLOTS: usize = 64;
 
 pub const NAME_SLOTS: usize = 128;
+
+// Slot numbers: two kinds, so that a key slot can't index the names.
+pub type KeySlot = Slot<KEY_SLOTS>;
+
+pub type NameSlot = Slot<NAME_SLOTS>;
 
 // Used 0/1; floor; six zeros; key 64.
 pub const KEY_SLOT_LENGTH: usize = 72;
@@ -38,6 +44,8 @@ pub const NAME_AT: usize = 16;
 // The latest clock 4, the edition 0/1, three zeros; the key slots; the name slots: 39,432 bytes.
 pub const AREA_LENGTH: usize = NAME_SLOTS_AT + NAME_SLOTS * NAME_SLOT_LENGTH;
 
+pub type Area = [u8; AREA_LENGTH];
+
 pub const LATEST_AT: usize = 0;
 
 pub const EDITION_AT: usize = 4;
@@ -46,18 +54,12 @@ pub const KEY_SLOTS_AT: usize = 8;
 
 pub const NAME_SLOTS_AT: usize = KEY_SLOTS_AT + KEY_SLOTS * KEY_SLOT_LENGTH;
 
-// Slot numbers: two kinds, so that a key slot can't index the names.
-#[derive(Clone, Copy)]
-pub struct KeySlot(pub usize);
-
-#[derive(Clone, Copy)]
-pub struct NameSlot(pub usize);
-
-// A byte as an index, so that callers prove no cast.
-fn wide(byte: u8) -> usize
-    ensures { (result ≡ byte) × (result < 256) }
+// The L bytes from `at`, as an array.
+fn part<const L: usize>(s: &[u8], at: usize) -> &[u8; L]
+    requires { at + L ≤ length s.now }
+    ensures { result.now ≡ part s.now at L }
 {
-    byte as usize
+    s[at..].first_chunk::<L>().unwrap()
 }
 
 pub fn latest(area: &[u8]) -> Minutes
@@ -75,24 +77,33 @@ pub fn is_two(area: &[u8]) -> bool
     area[EDITION_AT] == 1
 }
 
-pub fn key_slot(area: &[u8], k: KeySlot) -> &[u8]
-    requires { (length area.now ≡ area_length) × (k.0 < 64) }
-    ensures { (result.now ≡ key_slot area.now k.0) × (length result.now ≡ 72) }
+// Where a slot begins.
+pub fn key_place(k: KeySlot) -> usize
+    ensures { (result ≡ 8 + 72 * k) × (k < 64) }
 {
-    let n = k.0;
-    let at = KEY_SLOTS_AT + KEY_SLOT_LENGTH * n;
-    let end = at + KEY_SLOT_LENGTH;
-    &area[at..end]
+    KEY_SLOTS_AT + KEY_SLOT_LENGTH * k.number()
 }
 
-pub fn name_slot(area: &[u8], n: NameSlot) -> &[u8]
-    requires { (length area.now ≡ area_length) × (n.0 < 128) }
-    ensures { (result.now ≡ name_slot area.now n.0) × (length result.now ≡ 272) }
+pub fn name_place(n: NameSlot) -> usize
+    ensures { (result ≡ 4616 + 272 * n) × (n < 128) }
 {
-    let i = n.0;
-    let at = NAME_SLOTS_AT + NAME_SLOT_LENGTH * i;
-    let end = at + NAME_SLOT_LENGTH;
-    &area[at..end]
+    NAME_SLOTS_AT + NAME_SLOT_LENGTH * n.number()
+}
+
+#[tactic(auto, unfolding(pin_model::specs::Layout::key_slot))]
+pub fn key_slot(area: &[u8], k: KeySlot) -> &[u8; KEY_SLOT_LENGTH]
+    requires { length area.now ≡ area_length }
+    ensures { (result.now ≡ key_slot area.now k) × (k < 64) }
+{
+    part(area, key_place(k))
+}
+
+#[tactic(auto, unfolding(pin_model::specs::Layout::name_slot))]
+pub fn name_slot(area: &[u8], n: NameSlot) -> &[u8; NAME_SLOT_LENGTH]
+    requires { length area.now ≡ area_length }
+    ensures { (result.now ≡ name_slot area.now n) × (n < 128) }
+{
+    part(area, name_place(n))
 }
 
 // Of a slot of either kind.
@@ -104,66 +115,55 @@ pub fn is_used(s: &[u8]) -> bool
 }
 
 // Of a key slot.
-pub fn key(s: &[u8]) -> &[u8]
-    requires { length s.now ≡ 72 }
-    ensures { (result.now ≡ key_in s.now) × (length result.now ≡ 64) }
+pub fn key(s: &[u8; KEY_SLOT_LENGTH]) -> &[u8; 64]
+    ensures { result.now ≡ key_in s.now }
 {
-    &s[KEY_AT..KEY_SLOT_LENGTH]
+    part(s, KEY_AT)
 }
 
 // Of a name slot, as the functions below.
-pub fn key_number(s: &[u8]) -> KeySlot
-    requires { length s.now ≡ 272 }
-    ensures { (result.0 ≡ key_number s.now) × (result.0 < 256) }
+pub fn key_number(s: &[u8; NAME_SLOT_LENGTH]) -> u8
+    ensures { result ≡ key_number s.now }
 {
-    KeySlot(wide(s[KEY_NUMBER_AT]))
+    s[KEY_NUMBER_AT]
 }
 
-pub fn name_length(s: &[u8]) -> usize
-    requires { length s.now ≡ 272 }
-    ensures { (result ≡ name_length s.now) × (result < 256) }
+pub fn name_length(s: &[u8; NAME_SLOT_LENGTH]) -> u8
+    ensures { result ≡ name_length s.now }
 {
-    wide(s[NAME_LENGTH_AT])
+    s[NAME_LENGTH_AT]
 }
 
-pub fn initial(s: &[u8]) -> Minutes
-    requires { length s.now ≡ 272 }
+pub fn initial(s: &[u8; NAME_SLOT_LENGTH]) -> Minutes
     ensures { result.0 ≡ initial_in s.now }
 {
     minutes::minutes_at(s, INITIAL_AT)
 }
 
-pub fn end(s: &[u8]) -> Minutes
-    requires { length s.now ≡ 272 }
+pub fn end(s: &[u8; NAME_SLOT_LENGTH]) -> Minutes
     ensures { result.0 ≡ end_in s.now }
 {
     minutes::minutes_at(s, END_AT)
 }
 
-pub fn name(s: &[u8]) -> &[u8]
-    requires { length s.now ≡ 272 }
+pub fn name(s: &[u8; NAME_SLOT_LENGTH]) -> &[u8]
     ensures { (result.now ≡ name_in s.now) × (length result.now ≡ name_length s.now) }
 {
-    let end = NAME_AT + name_length(s);
+    let end = NAME_AT + usize::from(name_length(s));
     &s[NAME_AT..end]
 }
 
 // The name and the zeros behind it.
-pub fn padded_name(s: &[u8]) -> &[u8]
-    requires { length s.now ≡ 272 }
-    ensures { (result.now ≡ part s.now 16 256) × (length result.now ≡ 256) }
+pub fn padded_name(s: &[u8; NAME_SLOT_LENGTH]) -> &[u8; 256]
+    ensures { result.now ≡ part s.now 16 256 }
 {
-    &s[NAME_AT..NAME_SLOT_LENGTH]
+    part(s, NAME_AT)
 }
 
 // Whether it is used and refers to the key slot.
-pub fn refers_to(s: &[u8], k: KeySlot) -> bool
-    requires { length s.now ≡ 272 }
-    ensures { result ≡ refers_to k.0 s.now }
+#[tactic(auto, unfolding(pin_model::specs::Sound::refers_to))]
+pub fn refers_to(s: &[u8; NAME_SLOT_LENGTH], k: KeySlot) -> bool
+    ensures { result ≡ refers_to k s.now }
 {
-    if !is_used(s) {
-        return false;
-    }
-    let m = key_number(s);
-    m.0 == k.0
+    is_used(s) && usize::from(key_number(s)) == k.number()
 }

@@ -1,6 +1,6 @@
 pub mod Fields
-pub mod Places
 pub mod Bytes
 pub mod Taken
+pub mod CutOff
 pub mod Prefix
 pub mod RoundTrip

@@ -37,7 +37,7 @@ pub record FieldTaken (tag least most : ℕ) (s v r : List ℕ) : Type 0 where
   pub upper : length v ≤ most
   pub bytes : s ≡ tag ∷ high ∷ low ∷ (v ++ r)
 
-field-parts : (tag least most : ℕ) (s v r : List ℕ) → field tag least most s ≡ taken v r → FieldTaken tag least most s v r
+pub field-parts : (tag least most : ℕ) (s v r : List ℕ) → field tag least most s ≡ taken v r → FieldTaken tag least most s v r
 unfolding field
 field-parts tag least most [] v r h = never-cut h
 field-parts tag least most (t ∷ []) v r h = never-cut h
@@ -66,7 +66,7 @@ field-parts tag least most (t ∷ x ∷ y ∷ s) v r h =
     (λ e. never-bad (simp e at h))
 
 -- the answers, and the extension where one came
-answers-parts : (s v r : List ℕ) → answers_field s ≡ taken v r → FieldTaken 3 2 2 s v r × (get_or v 0 0 < 8)
+pub answers-parts : (s v r : List ℕ) → answers_field s ≡ taken v r → FieldTaken 3 2 2 s v r × (get_or v 0 0 < 8)
 answers-parts s v r h =
     then-taken (field 3 2 2 s) (λ answers rest. cond (ltb (get_or answers 0 0) 8) (taken answers rest) bad) h
     (λ a q e k.
@@ -82,7 +82,7 @@ abbrev pub ExtensionTaken : List ℕ → Option (List ℕ) → List ℕ → Type
 ExtensionTaken s none r = s ≡ r
 ExtensionTaken s (some e) r = FieldTaken 5 0 4096 s e r
 
-extension-parts : (s : List ℕ) (o : Option (List ℕ)) (r : List ℕ) → extension_field s ≡ taken o r → ExtensionTaken s o r
+pub extension-parts : (s : List ℕ) (o : Option (List ℕ)) (r : List ℕ) → extension_field s ≡ taken o r → ExtensionTaken s o r
 extension-parts s o r h =
     by_test (tagged 5 s)
     (λ e.

@@ -1,3 +1,2 @@
 pub mod RecordedCall
-pub mod Places
-pub mod FieldEnds
+pub mod Fronts

@@ -1,61 +1,53 @@
-// One field of a recorded call at a place of the bytes: a tag, two bytes of length, and so many bytes.
-ghost use Rattle.std.specs.Prelude.{◌≡◌, ◌≤◌, length, drop};
-ghost use Rattle.recorded_call.specs.RecordedCall.{field, answers_field, tagged};
-ghost use Rattle.recorded_call.specs.FieldEnds.{field_end};
+// One field of a recorded call: a tag, two bytes of length, and so many bytes.
+ghost use Rattle.std.specs.Prelude.{◌≡◌, ◌≤◌, length, IfOk};
+ghost use Rattle.recorded_call.specs.RecordedCall.{field, answers_field, extension_field};
+ghost use Rattle.recorded_call.specs.Fronts.{front, bytes, bytes_if_any};
 
-#[derive(Clone, Copy)]
-pub enum Field {
-    Ends(usize),
-    CutOff,
-    Bad,
-}
+use crate::front::{CallError, Taken};
 
-// The field of this tag at `at`, of least to most bytes.
-pub fn field_end(s: &[u8], at: usize, tag: u8, least: usize, most: usize) -> Field
-    requires { at ≤ length s.now }
-    ensures { result ≡ field_end at (field tag least most (drop at s.now)) }
+// The field of this tag, of least to most bytes.
+pub fn take(s: &[u8], tag: u8, least: usize, most: usize) -> Result<Taken<'_, &[u8]>, CallError>
+    ensures value { front bytes result ≡ field tag least most s.now }
+    ensures size { IfOk result (λ t. (least ≤ length t.value.now) × (length t.value.now ≤ most)) }
 {
-    if s.len() - at < 3 {
-        return Field::CutOff;
+    let [first, _, _, behind @ ..] = s else {
+        return Err(CallError::CutOff);
+    };
+    let n = octets::number_at::<2>(s, 1) as usize;
+    if *first != tag || n < least || most < n {
+        return Err(CallError::Bad);
     }
-    if s[at] != tag {
-        return Field::Bad;
-    }
-    let n = octets::u16_at(s, at + 1) as usize;
-    if n < least {
-        return Field::Bad;
-    }
-    if most < n {
-        return Field::Bad;
-    }
-    if s.len() - at - 3 < n {
-        return Field::CutOff;
-    }
-    Field::Ends(at + 3 + n)
+    let Some((value, rest)) = behind.split_at_checked(n) else {
+        return Err(CallError::CutOff);
+    };
+    Ok(Taken { value, rest })
 }
 
 // The answers: a first byte above 7 has a wrong bit.
-pub fn answers_end(s: &[u8], at: usize) -> Field
-    requires { at ≤ length s.now }
-    ensures { result ≡ field_end at (answers_field (drop at s.now)) }
+pub fn take_answers(s: &[u8]) -> Result<Taken<'_, &[u8]>, CallError>
+    ensures value { front bytes result ≡ answers_field s.now }
+    ensures size { IfOk result (λ t. length t.value.now ≡ 2) }
 {
-    let answers = field_end(s, at, 3, 2, 2);
-    let Field::Ends(end) = answers else {
-        return answers;
-    };
-    if 7 < s[at + 3] {
-        return Field::Bad;
+    let answers = take(s, 3, 2, 2)?;
+    if 7 < answers.value[0] {
+        return Err(CallError::Bad);
     }
-    Field::Ends(end)
+    Ok(answers)
 }
 
-// Whether the field at `at` has this tag.
-pub fn is_tagged(s: &[u8], at: usize, tag: u8) -> bool
-    requires { at ≤ length s.now }
-    ensures { result ≡ tagged tag (drop at s.now) }
+// The extension, if one came.
+pub fn take_extension(s: &[u8]) -> Result<Taken<'_, Option<&[u8]>>, CallError>
+    ensures { front bytes_if_any result ≡ extension_field s.now }
 {
-    if s.len() <= at {
-        return false;
+    if s.first() != Some(&5) {
+        return Ok(Taken {
+            value: None,
+            rest: s,
+        });
     }
-    s[at] == tag
+    let extension = take(s, 5, 0, 4096)?;
+    Ok(Taken {
+        value: Some(extension.value),
+        rest: extension.rest,
+    })
 }

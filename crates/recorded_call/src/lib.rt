@@ -2,4 +2,5 @@
 #![tactic(auto)]
 
 mod field;
+pub mod front;
 pub mod reader;

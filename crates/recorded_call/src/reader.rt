@@ -1,85 +1,56 @@
-// The reader of one recorded call. Each field gives the place where it ends; the first that is cut off or bad ends the reading.
-ghost use Rattle.std.specs.Prelude.{◌≡◌, ◌≤◌, length};
-ghost use Rattle.recorded_call.specs.RecordedCall.{recorded};
-ghost use Rattle.recorded_call.specs.Places.{taken_at, Within};
-ghost use Rattle.recorded_call.specs.FieldEnds.{stopped_by, end_places, extension_places};
+// The reader of one recorded call: a field behind the other. The first that is cut off or bad ends the reading.
+ghost use Rattle.std.specs.Prelude.{◌≡◌, length, eqb, ◌/◌, ◌%◌, ◌<◌};
+ghost use Rattle.pin_model.specs.Seen.{seen};
+ghost use Rattle.recorded_call.specs.RecordedCall.{recorded, checks_of};
+ghost use Rattle.recorded_call.specs.Fronts.{front, Within};
 
 use crate::field;
-use crate::field::Field;
+use crate::front::{CallError, Taken};
+use pin_model::{Checks, Connection};
 
-// What stands in front of the bytes of a night: a call, by where its name ends and by the place behind it; a call that is cut
-// off; or what no further bytes make a call.
-#[derive(Clone, Copy)]
-pub enum Taken {
-    Call {
-        name_end: usize,
-        extension_came: bool,
-        after: usize,
-    },
-    CutOff,
-    Bad,
+// Whether the answers' bit of this power is set.
+fn is_yes(answers: u8, power: u8) -> bool
+    requires { 0 < power }
+    ensures { result ≡ eqb (answers / power % 2) 1 }
+{
+    answers / power % 2 == 1
 }
 
-// A field that did not end ends the reading.
-fn stopped(f: Field) -> Taken
-    ensures { result ≡ stopped_by f }
+// The caller's answers. A night is played the old way: a disabled server gets a record too.
+fn checks_of(answers: &[u8]) -> Checks
+    requires { length answers.now ≡ 2 }
+    ensures { result ≡ checks_of answers.now }
 {
-    match f {
-        Field::Ends(_) => Taken::Bad,
-        Field::CutOff => Taken::CutOff,
-        Field::Bad => Taken::Bad,
+    let bits = answers[0];
+    Checks {
+        handshake_finished: is_yes(bits, 1),
+        key_is_point: is_yes(bits, 2),
+        signature_correct: is_yes(bits, 4),
+        breaks_correct: answers[1],
+        learn_disabled: true,
     }
 }
 
-fn take_end(s: &[u8], name_end: usize, extension_came: bool, at: usize) -> Taken
-    requires { at ≤ length s.now }
-    ensures { result ≡ end_places s.now name_end extension_came at }
+// The call in front of s. The longest has 4,452 bytes, so what is cut off has fewer.
+pub fn take_call(s: &[u8]) -> Result<Taken<'_, Connection<'_, Checks>>, CallError>
+    ensures call { front seen result ≡ recorded s.now }
+    ensures within { Within s.now result }
 {
-    let end = field::field_end(s, at, 6, 0, 0);
-    let Field::Ends(after) = end else {
-        return stopped(end);
+    let clock = field::take(s, 1, 4, 4)?;
+    let name = field::take(clock.rest, 2, 0, 300)?;
+    let answers = field::take_answers(name.rest)?;
+    let hash = field::take(answers.rest, 4, 32, 32)?;
+    let extension = field::take_extension(hash.rest)?;
+    let end = field::take(extension.rest, 6, 0, 0)?;
+    let call = Connection {
+        clock: u64::from(octets::number_at::<4>(clock.value, 0)),
+        name: name.value,
+        extension: extension.value,
+        hash: hash.value,
+        checks: checks_of(answers.value),
     };
-    Taken::Call {
-        name_end,
-        extension_came,
-        after,
-    }
-}
-
-fn take_extension(s: &[u8], name_end: usize, at: usize) -> Taken
-    requires { at ≤ length s.now }
-    ensures { result ≡ extension_places s.now name_end at }
-{
-    if !field::is_tagged(s, at, 5) {
-        return take_end(s, name_end, false, at);
-    }
-    let extension = field::field_end(s, at, 5, 0, 4096);
-    let Field::Ends(end) = extension else {
-        return stopped(extension);
-    };
-    take_end(s, name_end, true, end)
-}
-
-// The call in front of s.
-pub fn take_call(s: &[u8]) -> Taken
-    ensures call { taken_at s.now result ≡ recorded s.now }
-    ensures places { Within s.now result }
-{
-    let clock = field::field_end(s, 0, 1, 4, 4);
-    let Field::Ends(name) = clock else {
-        return stopped(clock);
-    };
-    let named = field::field_end(s, name, 2, 0, 300);
-    let Field::Ends(name_end) = named else {
-        return stopped(named);
-    };
-    let answers = field::answers_end(s, name_end);
-    let Field::Ends(hash) = answers else {
-        return stopped(answers);
-    };
-    let hashed = field::field_end(s, hash, 4, 32, 32);
-    let Field::Ends(end) = hashed else {
-        return stopped(hashed);
-    };
-    take_extension(s, name_end, end)
+    Ok(Taken {
+        value: call,
+        rest: end.rest,
+    })
 }

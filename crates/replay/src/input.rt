@@ -1,52 +1,69 @@
 // Standard input, read behind the bytes that are not yet played.
-ghost use Rattle.std.specs.Prelude.{◌≡◌, ◌+◌, ◌≤◌, ◌<◌, length};
-ghost use Rattle.octets.specs.Octets.{part, put};
-ghost use Rattle.replay.specs.Progress.{FilledWithin};
+ghost use Rattle.std.specs.Prelude.{◌≡◌, ◌≤◌, ◌<◌, [], List, ℕ, length, drop, slice_range};
 
 use std::io;
 use std::io::{ErrorKind, Read};
+use std::marker::Model;
 
-// What a read gave: so many bytes now stand at the start; the input has ended; or it failed.
-#[derive(Clone, Copy)]
-pub enum Filled {
-    To(usize),
-    Ended,
-    Failed,
+const SIZE: usize = 65536;
+
+// The bytes that are read and not yet played: a part of a buffer in which a call finds room many times.
+#[derive(Drop)]
+pub struct Unplayed {
+    buffer: [u8; SIZE],
+    from: usize,
+    to: usize,
 }
 
-// Moves the n bytes from `from` to the front.
-fn move_to_front(s: &mut [u8], from: usize, n: usize)
-    requires { from + n ≤ length s.old }
-    ensures { s.new ≡ put s.old 0 (part s.old from n) }
-{
-    let mut i = 0;
-    while i < n {
-        s[i] = s[from + i];
-        i += 1;
+impl Model for Unplayed {
+    ghost Value = { List ℕ };
+
+    ghost view = { λ u. slice_range u.buffer u.from u.to };
+
+    ghost invariant = { λ u. (u.from ≤ u.to) × (u.to ≤ 65536) };
+}
+
+impl Unplayed {
+    pub fn new() -> Self
+        ensures { result ≡ [] }
+    {
+        Unplayed {
+            buffer: [0; SIZE],
+            from: 0,
+            to: 0,
+        }
     }
-}
 
-// Says on standard error what failed, and how.
-pub(crate) fn fail(rt: &HostRuntime, what: &str, error: io::Error) {
-    let _ = eprintln!(rt; "{what}: {error}");
-}
+    pub fn bytes(&self) -> &[u8]
+        ensures { result.now ≡ self.now }
+    {
+        &self.buffer[self.from..self.to]
+    }
 
-// Moves the n bytes from `from` to the front, and makes one read behind them. A read that a signal stopped gives no bytes.
-pub fn fill(rt: &HostRuntime, bytes: &mut [u8], from: usize, n: usize) -> Filled
-    requires { (from + n ≤ length bytes.old) × (n < length bytes.old) }
-    ensures { FilledWithin (length bytes.old) result }
-{
-    move_to_front(bytes, from, n);
-    let mut input = rt.stdin();
-    match input.read(&mut bytes[n..]) {
-        Ok(0) => Filled::Ended,
-        Ok(more) => Filled::To(n + more),
-        Err(error) => {
-            if error.kind() == ErrorKind::Interrupted {
-                return Filled::To(n);
+    // The first n are played.
+    pub fn pass(&mut self, n: usize)
+        requires { n ≤ length self.old }
+        ensures { self.new ≡ drop n self.old }
+    {
+        self.from += n;
+    }
+
+    // Moves the bytes to the front, and makes one read behind them. A read that a signal stopped gives no bytes. Whether there may be
+    // more: none where the input has ended.
+    pub fn read_more(&mut self, rt: &HostRuntime) -> io::Result<bool>
+        requires { length self.old < 65536 }
+    {
+        self.buffer.copy_within(self.from..self.to, 0);
+        self.to -= self.from;
+        self.from = 0;
+        let mut input = rt.stdin();
+        match input.read(&mut self.buffer[self.to..]) {
+            Ok(more) => {
+                self.to += more;
+                Ok(0 < more)
             }
-            fail(rt, "replay: standard input", error);
-            Filled::Failed
+            Err(error) if error.kind() == ErrorKind::Interrupted => Ok(true),
+            Err(error) => Err(error),
         }
     }
 }

@@ -9,49 +9,33 @@ use std::env::{Env, FillError};
 use std::io;
 use tally::Tally;
 
-#[derive(Clone, Copy)]
+#[derive(Clone, Copy, Debug, PartialEq, Eq)]
 enum Asked {
     Report,
     Tally,
     Other,
 }
 
-// Whether the program has an argument of this number.
-fn has_argument(rt: &HostRuntime, number: usize) -> bool {
-    let mut word = [0u8; 8];
-    match rt.arg(number, &mut word) {
-        Ok(_) => true,
-        Err(FillError::TooLong) => true,
-        Err(FillError::NotPresent) => false,
-    }
-}
-
 fn wish(rt: &HostRuntime) -> Asked {
-    if !has_argument(rt, 1) {
-        return Asked::Report;
-    }
-    if has_argument(rt, 2) {
-        return Asked::Other;
-    }
     let mut word = [0u8; 8];
-    let Ok(5) = rt.arg(1, &mut word) else {
-        return Asked::Other;
-    };
-    if octets::same_at(&word, 0, b"tally") {
-        return Asked::Tally;
+    let first = rt.arg(1, &mut word);
+    let is_tally = word.starts_with(b"tally");
+    let mut next = [0u8; 8];
+    let second = rt.arg(2, &mut next);
+    match (first, second) {
+        (Err(FillError::NotPresent), _) => Asked::Report,
+        (Ok(5), Err(FillError::NotPresent)) if is_tally => Asked::Tally,
+        _ => Asked::Other,
     }
-    Asked::Other
 }
 
 // A line for each number that was answered: the number, and how often.
-fn show_tally(rt: &HostRuntime, tally: Tally) -> io::Result<()> {
-    let mut number: u8 = 0;
-    while number < 32 {
-        let times = tally::times(tally, number);
+fn show_tally(rt: &HostRuntime, tally: &Tally) -> io::Result<()> {
+    for number in 0..32u8 {
+        let times = tally.times(number);
         if 0 < times {
             eprintln!(rt; "{number} {times}")?;
         }
-        number += 1;
     }
     Ok(())
 }
@@ -64,7 +48,7 @@ fn main(rt: HostRuntime) -> io::Result<()> {
         }
         Asked::Tally => {
             let tally = turns::replay(&rt);
-            show_tally(&rt, tally)
+            show_tally(&rt, &tally)
         }
         Asked::Other => {
             eprintln!(rt;

@@ -1,191 +1,155 @@
 // The turns of a replay: each plays the call in front of the bytes read so far, or reads more.
-ghost use Rattle.std.specs.Prelude.{◌≡◌, false, [], ◌+◌, ◌≤◌, ◌<◌, length};
-ghost use Rattle.pin_model.specs.Run.{area_of};
+ghost use Rattle.std.specs.Prelude.{◌≡◌, ◌+◌, ◌≤◌, ◌<◌, length};
 ghost use Rattle.replay.specs.Progress.{InOrder, Reached, Tallied};
 
-use crate::input;
-use crate::input::Filled;
-use night_play::Turn;
+use crate::input::Unplayed;
 use night_report::text;
+use recorded_call::front::CallError;
+use std::io;
 use std::io::Write;
 use tally::Tally;
 
-// The text has room for another line up to here: 65,536 bytes less the longest line.
-const LAST_LINE_AT: usize = 65536 - 31;
+const SIZE: usize = 65536;
 
-// How far a replay has come: the bytes that are read and not yet played, the next call's index, the end of the text that is not
-// yet written, the tally, and whether there is more to do.
-#[derive(Clone, Copy)]
-struct Progress {
-    from: usize,
-    to: usize,
+// The text has room for another line up to here: its size less the longest line.
+const LAST_LINE_AT: usize = SIZE - 31;
+
+// The stream that failed, and how.
+#[derive(Drop)]
+pub enum Failure {
+    Input(io::Error),
+    Output(io::Error),
+}
+
+// How far a replay has come: the table, the bytes that are read and not yet played, the lines that are not yet written and where they
+// end, the next call's index, and the tally.
+#[derive(Drop)]
+pub struct Progress {
+    area: [u8; 39432],
+    unplayed: Unplayed,
+    lines: [u8; SIZE],
+    end: usize,
     index: u64,
-    at: usize,
     tally: Tally,
-    goes_on: bool,
 }
 
-fn stopped(index: u64, tally: Tally) -> Progress
-    ensures { InOrder result × (result.index ≡ index) × (result.tally ≡ tally) }
-{
-    Progress {
-        from: 0,
-        to: 0,
-        index,
-        at: 0,
-        tally,
-        goes_on: false,
-    }
-}
-
-// Writes the lines up to `end`, and says whether that worked.
-fn write(rt: &HostRuntime, lines: &[u8], end: usize) -> bool
-    requires { end ≤ length lines.now }
-{
-    let mut output = rt.stdout();
-    match output.write_all(&lines[0..end]) {
-        Ok(()) => true,
-        Err(error) => {
-            input::fail(rt, "replay: standard output", error);
-            false
+impl Progress {
+    // From the empty table of edition one.
+    fn new() -> Self
+        ensures { InOrder result × (result.index ≡ 0) }
+    {
+        Progress {
+            area: [0; 39432],
+            unplayed: Unplayed::new(),
+            lines: [0; SIZE],
+            end: 0,
+            index: 0,
+            tally: Tally::new(),
         }
     }
-}
 
-// Writes what is left of the report, and its last line: `total` behind a whole night, `bad` behind any other.
-fn close(rt: &HostRuntime, lines: &mut [u8], at: usize, index: u64, whole: bool)
-    requires { at + 31 ≤ length lines.old }
-{
-    if whole {
-        let end = text::put_total(lines, at, index);
-        write(rt, lines, end);
-        return;
+    // Writes the lines that are not yet written.
+    fn write(&mut self, rt: &HostRuntime) -> Result<(), Failure>
+        requires { (self.old.end ≤ 65536) × Reached self.old.area self.old.index self.old.tally.counts }
+        ensures { InOrder self.new × (self.new.index ≡ self.old.index) × (self.new.unplayed ≡ self.old.unplayed) }
+    {
+        let end = self.end;
+        self.end = 0;
+        let mut output = rt.stdout();
+        output
+            .write_all(&self.lines[..end])
+            .map_err(Failure::Output)
     }
-    let end = text::put_bad(lines, at);
-    write(rt, lines, end);
-}
 
-// Where the call in front is cut off: what is played is written before the program waits for more.
-fn read_more(rt: &HostRuntime, bytes: &mut [u8], lines: &mut [u8], p: Progress) -> Progress
-    requires { InOrder p × (p.to < p.from + 4452) × (length bytes.old ≡ 65536) × (length lines.old ≡ 65536) }
-    ensures { InOrder result × (result.index ≡ p.index) × (result.tally ≡ p.tally) }
-{
-    let tally = p.tally;
-    if !write(rt, lines, p.at) {
-        return stopped(p.index, tally);
+    // Writes what is left of the report, and its last line: `total` behind a whole night, `bad` behind any other.
+    fn close(&mut self, rt: &HostRuntime, whole: bool) -> Result<(), Failure>
+        requires { InOrder self.old }
+        ensures { InOrder self.new × (self.new.index ≡ self.old.index) }
+    {
+        let index = self.index;
+        self.end = if whole {
+            text::put_total(&mut self.lines, self.end, index)
+        } else {
+            text::put_bad(&mut self.lines, self.end)
+        };
+        self.write(rt)
     }
-    let left = p.to - p.from;
-    match input::fill(rt, bytes, p.from, left) {
-        Filled::To(end) => Progress {
-            from: 0,
-            to: end,
-            index: p.index,
-            at: 0,
-            tally,
-            goes_on: true,
-        },
-        Filled::Ended => {
-            close(rt, lines, 0, p.index, left == 0);
-            stopped(p.index, tally)
+
+    // Where the call in front is cut off: what is played is written before the program waits for more. Whether there may be more to
+    // play.
+    fn read_more(&mut self, rt: &HostRuntime) -> Result<bool, Failure>
+        requires { InOrder self.old × (length self.old.unplayed < 4452) }
+        ensures { InOrder self.new × (self.new.index ≡ self.old.index) }
+    {
+        self.write(rt)?;
+        if self.unplayed.read_more(rt).map_err(Failure::Input)? {
+            return Ok(true);
         }
-        Filled::Failed => stopped(p.index, tally),
+        let whole = self.unplayed.bytes().is_empty();
+        self.close(rt, whole)?;
+        Ok(false)
     }
-}
 
-// Room for another line: the lines are written where they fill the text.
-fn make_room(rt: &HostRuntime, lines: &[u8], p: Progress) -> Progress
-    requires { (p.from ≤ p.to) × (p.to ≤ 65536) × (p.at ≤ 65536) × (length lines.now ≡ 65536) }
-    ensures { InOrder result × (result.index ≡ p.index) × (result.tally ≡ p.tally) }
-{
-    if p.at <= LAST_LINE_AT {
-        return p;
-    }
-    let tally = p.tally;
-    if !write(rt, lines, p.at) {
-        return stopped(p.index, tally);
-    }
-    Progress {
-        from: p.from,
-        to: p.to,
-        index: p.index,
-        at: 0,
-        tally,
-        goes_on: true,
-    }
-}
-
-// One turn.
-fn turn(
-    rt: &HostRuntime,
-    area: &mut [u8],
-    bytes: &mut [u8],
-    lines: &mut [u8],
-    p: Progress,
-) -> Progress
-    requires { InOrder p × (p.index < 18446744073709551615) × Reached area.old p.index p.tally.counts × (length bytes.old ≡ 65536) × (length lines.old ≡ 65536) }
-    ensures { InOrder result × (result.index ≤ p.index + 1) × Reached area.new result.index result.tally.counts }
-{
-    let from = p.from;
-    let to = p.to;
-    let tally = p.tally;
-    let played = night_play::play_lending(tally, area, &bytes[from..to], p.index, lines, p.at);
-    let counted = played.tally;
-    let turn = played.turn;
-    match turn {
-        Turn::Line {
-            taken,
-            end,
-            number: _,
-        } => make_room(
-            rt,
-            lines,
-            Progress {
-                from: from + taken,
-                to,
-                index: p.index + 1,
-                at: end,
-                tally: counted,
-                goes_on: true,
-            },
-        ),
-        Turn::CutOff => read_more(rt, bytes, lines, p),
-        Turn::Bad => {
-            close(rt, lines, p.at, p.index, false);
-            stopped(p.index, counted)
+    // One turn: whether there may be more to play.
+    fn turn(&mut self, rt: &HostRuntime) -> Result<bool, Failure>
+        requires { InOrder self.old × (self.old.index < 18446744073709551615) }
+        ensures { InOrder self.new × (self.new.index ≤ self.old.index + 1) }
+    {
+        let played = night_play::play_counted(
+            &mut self.tally,
+            &mut self.area,
+            self.unplayed.bytes(),
+            self.index,
+            &mut self.lines,
+            self.end,
+        );
+        match played {
+            Ok(line) => {
+                self.unplayed.pass(line.taken);
+                self.end = line.end;
+                self.index += 1;
+                if LAST_LINE_AT < line.end {
+                    self.write(rt)?;
+                }
+                Ok(true)
+            }
+            Err(CallError::CutOff) => self.read_more(rt),
+            Err(CallError::Bad) => {
+                self.close(rt, false)?;
+                Ok(false)
+            }
         }
     }
+
+    // Turn after turn. A night of so many calls that they could not be counted does not end in any lifetime.
+    fn run(&mut self, rt: &HostRuntime) -> Result<(), Failure>
+        requires { InOrder self.old × (self.old.index ≡ 0) }
+        ensures { InOrder self.new }
+    {
+        for _ in 0..u64::MAX {
+            if !self.turn(rt)? {
+                break;
+            }
+        }
+        Ok(())
+    }
 }
 
-// Turn after turn. A night of so many calls that they could not be counted does not end in any lifetime.
-fn run(rt: &HostRuntime, area: &mut [u8], bytes: &mut [u8], lines: &mut [u8]) -> Tally
-    requires { (area.old ≡ area_of false []) × (length bytes.old ≡ 65536) × (length lines.old ≡ 65536) }
-    ensures { Tallied result.counts }
-{
-    let mut p = Progress {
-        from: 0,
-        to: 0,
-        index: 0,
-        at: 0,
-        tally: tally::empty(),
-        goes_on: true,
+// Says on standard error what failed, and how.
+fn show(rt: &HostRuntime, failure: Failure) {
+    let _ = match failure {
+        Failure::Input(error) => eprintln!(rt; "replay: standard input: {error}"),
+        Failure::Output(error) => eprintln!(rt; "replay: standard output: {error}"),
     };
-    let mut turns = u64::MAX;
-    while turns > 0 {
-        if !p.goes_on {
-            return p.tally;
-        }
-        p = turn(rt, area, bytes, lines, p);
-        turns -= 1;
-    }
-    p.tally
 }
 
-// A whole night, from the empty table of edition one.
+// A whole night. What fails ends it, with a message.
 pub fn replay(rt: &HostRuntime) -> Tally
     ensures { Tallied result.counts }
 {
-    let mut area = [0u8; 39432];
-    let mut bytes = [0u8; 65536];
-    let mut lines = [0u8; 65536];
-    run(rt, &mut area, &mut bytes, &mut lines)
+    let mut progress = Progress::new();
+    if let Err(failure) = progress.run(rt) {
+        show(rt, failure);
+    }
+    progress.tally
 }

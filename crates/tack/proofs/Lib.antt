@@ -1,3 +1,4 @@
 pub mod Spans
 pub mod SpansTwo
 pub mod Outcomes
+pub mod Ignored

@@ -1,12 +1,12 @@
 -- The answers of the C interface on an extension of edition two, field by field.
 use Rattle.std.specs.Prelude.{ℕ, Bool, true, false, List}
 use Rattle.tack_extension.specs.Answers.{alert_of_two}
-use Rattle.tack_extension_two.specs.declared.reader.Reading.{Reading}
-use Rattle.tack_extension_two.specs.ExtensionTwo.{parse_two, parts_or_none}
+use Rattle.std.proofs.Math.Option.{Option}
+use Rattle.tack_extension_two.specs.ExtensionTwo.{PartsTwo, parse_two, parts_or_none}
 use Rattle.tack_extension_two.specs.AnswersTwo.{reading_number, reading_flags}
 use Rattle.tack.specs.declared.extension.ReadingAnswer.{ReadingAnswer}
 
-unfoldable pub reading_two_answer : Reading → ReadingAnswer
+unfoldable pub reading_two_answer : Option PartsTwo → ReadingAnswer
 reading_two_answer r = record { number = reading_number r; alert = alert_of_two (reading_number r); activation = reading_flags r }
 
 -- the first tack, or the second: what it is, and where it begins

@@ -3,33 +3,30 @@ ghost use Rattle.std.specs.Prelude.{◌≡◌, length};
 ghost use Rattle.octets.specs.Octets.{part};
 ghost use Rattle.tack_extension.specs.Answers.{writing, output};
 ghost use Rattle.tack_extension_two.specs.ExtensionTwo.{parts_in, good_two, bytes_of_two, parse_two};
-ghost use Rattle.tack_extension_two.specs.AnswersTwo.{reading_two};
 ghost use Rattle.pin_model.specs.Connection.{connection};
 ghost use Rattle.pin_model.specs.Calls as calls;
 ghost use Rattle.tack.specs.Extension.{span_of, writing_answer};
 ghost use Rattle.tack.specs.ExtensionTwo.{reading_two_answer, tack_in, tack_start};
 ghost use Rattle.tack.specs.Table.{checks_two, judgement_of};
 
-use crate::extension;
 use crate::extension::{ReadingAnswer, Span, WritingAnswer};
 use crate::table::JudgementAnswer;
-use pin_answers::Judgement;
-use pin_model::ChecksTwo;
-use tack_extension_two::reader::Reading;
+use crate::{extension, table};
+use pin_model::{ChecksTwo, Connection};
 use tack_extension_two::{reader, writer};
 
 // The activation holds the flags.
 #[unsafe(no_mangle)]
 pub extern "C" fn tack2_extension_read(bytes: &[u8]) -> ReadingAnswer
-    ensures { result ≡ reading_two_answer (reading_two (parse_two bytes.now)) }
+    ensures { result ≡ reading_two_answer (parse_two bytes.now) }
 {
     match reader::read(bytes) {
-        Reading::WellFormed { flags } => ReadingAnswer {
+        Some(tacks) => ReadingAnswer {
             number: 9,
             alert: 0,
-            activation: flags,
+            activation: tacks.flags,
         },
-        Reading::Malformed => ReadingAnswer {
+        None => ReadingAnswer {
             number: 16,
             alert: 42,
             activation: 0,
@@ -76,36 +73,21 @@ pub extern "C" fn tack2_judge(
     ensures answer { result ≡ judgement_of (calls.answered (calls.judge_two (connection clock name.now extension_came extension.now spki_sha256.now (checks_two handshake_finished keys_are_points signatures_correct))) table.old) }
     ensures table { table.new ≡ calls.area_left (calls.judge_two (connection clock name.now extension_came extension.now spki_sha256.now (checks_two handshake_finished keys_are_points signatures_correct))) table.old }
 {
-    match pin_judge_two::judge(
-        table,
+    let connection = Connection {
         clock,
         name,
-        extension_came,
-        extension,
-        spki_sha256,
-        ChecksTwo {
+        extension: extension_came.then_some(extension),
+        hash: spki_sha256,
+        checks: ChecksTwo {
             handshake_finished,
             first_is_point: keys_are_points % 2 == 1,
             first_correct: signatures_correct % 2 == 1,
             second_is_point: keys_are_points / 2 % 2 == 1,
             second_correct: signatures_correct / 2 % 2 == 1,
         },
-    ) {
-        Judgement::Judged { verdict, no_room } => {
-            let number = pin_answers::verdict_number(verdict);
-            JudgementAnswer {
-                number,
-                alert: pin_answers::alert_of_two(number),
-                no_room,
-            }
-        }
-        Judgement::Refused(refusal) => {
-            let number = pin_answers::refusal_number(refusal);
-            JudgementAnswer {
-                number,
-                alert: pin_answers::alert_of_two(number),
-                no_room: false,
-            }
-        }
-    }
+    };
+    table::judgement_answer(
+        pin_judge_two::judge(table, &connection),
+        pin_answers::alert_of_two,
+    )
 }

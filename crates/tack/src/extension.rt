@@ -3,12 +3,11 @@ ghost use Rattle.std.specs.Prelude.{◌≡◌, length, eqb};
 ghost use Rattle.octets.specs.Octets.{part};
 ghost use Rattle.tack_extension.specs.Extension.{parse, parts, good, bytes_of, tack_part, breaks_part};
 ghost use Rattle.tack_extension.specs.Tack.{signed_bytes};
-ghost use Rattle.tack_extension.specs.Answers.{reading_of, writing, output};
+ghost use Rattle.tack_extension.specs.Answers.{writing, output};
 ghost use Rattle.tack.specs.Extension.{reading_answer, span_of, breaks_start, writing_answer};
 
-use tack_extension::answers::Writing;
+use tack_extension::answers::WritingError;
 use tack_extension::reader;
-use tack_extension::reader::Reading;
 
 // tack_reading
 #[repr(C)]
@@ -38,15 +37,15 @@ pub struct WritingAnswer {
 
 #[unsafe(no_mangle)]
 pub extern "C" fn tack_extension_read(bytes: &[u8]) -> ReadingAnswer
-    ensures { result ≡ reading_answer (reading_of (parse bytes.now)) }
+    ensures { result ≡ reading_answer (parse bytes.now) }
 {
     match reader::read(bytes) {
-        Reading::WellFormed { activation } => ReadingAnswer {
+        Some(extension) => ReadingAnswer {
             number: 9,
             alert: 0,
-            activation,
+            activation: extension.activation,
         },
-        Reading::Malformed => ReadingAnswer {
+        None => ReadingAnswer {
             number: 16,
             alert: 50,
             activation: 0,
@@ -87,22 +86,20 @@ pub extern "C" fn tack_extension_breaks(bytes: &[u8]) -> Span
 }
 
 // What a writer answers, in numbers.
-pub(crate) fn writing_answer(w: Writing) -> WritingAnswer
+pub(crate) fn writing_answer(w: Result<usize, WritingError>) -> WritingAnswer
     ensures { result ≡ writing_answer w }
 {
     match w {
-        Writing::Written { bytes } => WritingAnswer {
+        Ok(written) => WritingAnswer {
             number: 9,
             alert: 0,
-            written: bytes,
+            written,
         },
-        Writing::BadPart => WritingAnswer {
-            number: 25,
-            alert: 0,
-            written: 0,
-        },
-        Writing::NoSpace => WritingAnswer {
-            number: 26,
+        Err(error) => WritingAnswer {
+            number: match error {
+                WritingError::BadPart => 25,
+                WritingError::NoSpace => 26,
+            },
             alert: 0,
             written: 0,
         },

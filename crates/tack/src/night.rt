@@ -7,7 +7,7 @@ ghost use Rattle.tack.specs.Extension.{writing_answer};
 
 use crate::extension;
 use crate::extension::WritingAnswer;
-use pin_model::Checks;
+use pin_model::{Checks, Connection};
 
 #[unsafe(no_mangle)]
 pub extern "C" fn tack_call_write(
@@ -25,19 +25,18 @@ pub extern "C" fn tack_call_write(
     ensures answer { result ≡ writing_answer (writing (recordable (connection clock name.now extension_came extension.now spki_sha256.now (checks_by handshake_finished key_is_point signature_correct breaks_correct true))) (call_bytes (connection clock name.now extension_came extension.now spki_sha256.now (checks_by handshake_finished key_is_point signature_correct breaks_correct true))) out.old) }
     ensures written { out.new ≡ output (recordable (connection clock name.now extension_came extension.now spki_sha256.now (checks_by handshake_finished key_is_point signature_correct breaks_correct true))) (call_bytes (connection clock name.now extension_came extension.now spki_sha256.now (checks_by handshake_finished key_is_point signature_correct breaks_correct true))) out.old }
 {
-    extension::writing_answer(call_writer::write_call(
+    let connection = Connection {
         clock,
         name,
-        extension_came,
-        extension,
-        spki_sha256,
-        Checks {
+        extension: extension_came.then_some(extension),
+        hash: spki_sha256,
+        checks: Checks {
             handshake_finished,
             key_is_point,
             signature_correct,
             breaks_correct,
             learn_disabled: true,
         },
-        out,
-    ))
+    };
+    extension::writing_answer(call_writer::write_call(&connection, out))
 }

@@ -1,12 +1,13 @@
 // The pin table: judging, deletion, inspection and starting.
-ghost use Rattle.std.specs.Prelude.{◌≡◌};
+ghost use Rattle.std.specs.Prelude.{◌≡◌, Ok, Some};
 ghost use Rattle.pin_model.specs.Calls as calls;
 ghost use Rattle.pin_model.specs.Connection.{connection, checks_by};
+ghost use Rattle.pin_answers.specs.Numbers.{judgement_answer, inspection_answer};
 ghost use Rattle.tack.specs.Table.{judgement_of, outcome_of, inspection_of};
 
 use pin_answers::{Inspection, Judgement};
 use pin_manage::{deletion, inspection, starting};
-use pin_model::Checks;
+use pin_model::{Checks, Connection};
 
 // tack_judgement
 #[repr(C)]
@@ -37,6 +38,24 @@ pub struct InspectionAnswer {
     pub minutes_left: i64,
 }
 
+// A judgement, with the alerts of its edition.
+pub(crate) fn judgement_answer<F: Fn(u8) -> u8>(
+    judgement: Judgement,
+    alert_of: F,
+) -> JudgementAnswer
+    requires { F.IsAlwaysCallable alert_of }
+    ensures number { result.number ≡ (judgement_answer judgement).number }
+    ensures alert { F.post alert_of result.number result.alert }
+    ensures no_room { result.no_room ≡ (judgement_answer judgement).no_room }
+{
+    let number = pin_answers::number_of(judgement);
+    JudgementAnswer {
+        number,
+        alert: alert_of(number),
+        no_room: judgement.is_ok_and(|judged| judged.no_room),
+    }
+}
+
 #[unsafe(no_mangle)]
 pub extern "C" fn tack_judge(
     table: &mut [u8],
@@ -54,37 +73,30 @@ pub extern "C" fn tack_judge(
     ensures answer { result ≡ judgement_of (calls.answered (calls.judge (connection clock name.now extension_came extension.now spki_sha256.now (checks_by handshake_finished key_is_point signature_correct breaks_correct learn_disabled))) table.old) }
     ensures table { table.new ≡ calls.area_left (calls.judge (connection clock name.now extension_came extension.now spki_sha256.now (checks_by handshake_finished key_is_point signature_correct breaks_correct learn_disabled))) table.old }
 {
-    match pin_judge::judge(
-        table,
+    let connection = Connection {
         clock,
         name,
-        extension_came,
-        extension,
-        spki_sha256,
-        Checks {
+        extension: extension_came.then_some(extension),
+        hash: spki_sha256,
+        checks: Checks {
             handshake_finished,
             key_is_point,
             signature_correct,
             breaks_correct,
             learn_disabled,
         },
-    ) {
-        Judgement::Judged { verdict, no_room } => {
-            let number = pin_answers::verdict_number(verdict);
-            JudgementAnswer {
-                number,
-                alert: pin_answers::alert_of(number),
-                no_room,
-            }
-        }
-        Judgement::Refused(refusal) => {
-            let number = pin_answers::refusal_number(refusal);
-            JudgementAnswer {
-                number,
-                alert: pin_answers::alert_of(number),
-                no_room: false,
-            }
-        }
+    };
+    judgement_answer(pin_judge::judge(table, &connection), pin_answers::alert_of)
+}
+
+// A number of edition one with its alert.
+#[tactic(auto, unfolding(crate::specs::Table::outcome_of))]
+fn outcome(number: u8) -> OutcomeAnswer
+    ensures { result ≡ outcome_of (calls.plain number) }
+{
+    OutcomeAnswer {
+        number,
+        alert: pin_answers::alert_of(number),
     }
 }
 
@@ -93,10 +105,40 @@ pub extern "C" fn tack_delete(table: &mut [u8], name: &[u8]) -> OutcomeAnswer
     ensures answer { result ≡ outcome_of (calls.answered (calls.delete name.now) table.old) }
     ensures table { table.new ≡ calls.area_left (calls.delete name.now) table.old }
 {
-    let number = pin_answers::deletion_number(deletion::delete(table, name));
-    OutcomeAnswer {
+    outcome(pin_answers::number_of(deletion::delete(table, name)))
+}
+
+// An inspection that gives no record.
+#[tactic(auto, unfolding(crate::specs::Table::inspection_of))]
+fn no_record(number: u8) -> InspectionAnswer
+    ensures { result ≡ inspection_of (calls.plain number) }
+{
+    InspectionAnswer {
         number,
         alert: pin_answers::alert_of(number),
+        floor: 0,
+        initial: 0,
+        end: 0,
+        minutes_left: 0,
+    }
+}
+
+// What a record says: 5 without an end, 6 with one.
+#[tactic(auto, unfolding(crate::specs::Table::inspection_of, tack_extension::specs::Answers::alert_of))]
+fn record_answer(found: Inspection) -> InspectionAnswer
+    ensures { result ≡ inspection_of (inspection_answer (Ok (Some found))) }
+{
+    let (number, end, minutes_left) = match found.end {
+        None => (5, 0, 0),
+        Some(end) => (6, end.end, end.minutes_left),
+    };
+    InspectionAnswer {
+        number,
+        alert: 0,
+        floor: found.floor,
+        initial: found.initial,
+        end,
+        minutes_left,
     }
 }
 
@@ -110,46 +152,9 @@ pub extern "C" fn tack_inspect(
     ensures { result ≡ inspection_of (calls.answered (calls.inspect second name.now clock) table.now) }
 {
     match inspection::inspect(table, name, clock, second) {
-        Inspection::WithoutEnd { floor, initial } => InspectionAnswer {
-            number: 5,
-            alert: 0,
-            floor,
-            initial,
-            end: 0,
-            minutes_left: 0,
-        },
-        Inspection::WithEnd {
-            floor,
-            initial,
-            end,
-            minutes_left,
-        } => InspectionAnswer {
-            number: 6,
-            alert: 0,
-            floor,
-            initial,
-            end,
-            minutes_left,
-        },
-        Inspection::NotRecorded => InspectionAnswer {
-            number: 4,
-            alert: 0,
-            floor: 0,
-            initial: 0,
-            end: 0,
-            minutes_left: 0,
-        },
-        Inspection::Refused(refusal) => {
-            let number = pin_answers::refusal_number(refusal);
-            InspectionAnswer {
-                number,
-                alert: pin_answers::alert_of(number),
-                floor: 0,
-                initial: 0,
-                end: 0,
-                minutes_left: 0,
-            }
-        }
+        Ok(Some(found)) => record_answer(found),
+        Ok(None) => no_record(4),
+        Err(refusal) => no_record(u8::from(refusal)),
     }
 }
 
@@ -158,9 +163,8 @@ pub extern "C" fn tack_start(table: &mut [u8], edition_two: bool) -> OutcomeAnsw
     ensures answer { result ≡ outcome_of (calls.answered (calls.start edition_two) table.old) }
     ensures table { table.new ≡ calls.area_left (calls.start edition_two) table.old }
 {
-    let number = pin_answers::starting_number(starting::start(table, edition_two));
-    OutcomeAnswer {
-        number,
-        alert: pin_answers::alert_of(number),
+    match starting::start(table, edition_two) {
+        Ok(()) => outcome(7),
+        Err(refusal) => outcome(u8::from(refusal)),
     }
 }

@@ -1,5 +1,5 @@
 pub mod Steps
-pub mod Places
+pub mod Reading
+pub mod RoundTrip
 pub mod BreakSignatures
 pub mod Writing
-pub mod RoundTrip

@@ -13,7 +13,7 @@ use Rattle.octets.proofs.Tests.{and_left, and_right, and_both}
 use Rattle.octets.proofs.Numbers.{bytes-behind, number-big_endian, big_endian-number, big_endian-two}
 use Rattle.tack_extension.specs.Extension.{Parts, parts, good, bytes_of, read, tack_length, breaks_length, length_step, tack_step, breaks_step, activation_step, after_tack, after_breaks, after_activation, parse}
 use Rattle.tack_extension.specs.Answers.{writing, output}
-use Rattle.tack_extension.specs.declared.answers.Writing.TheVariants.{Written}
+use Rattle.std.specs.Prelude.{Ok}
 use Rattle.tack_extension.proofs.Steps.{LengthRead, breaks-small, cut-append, parsed}
 use Rattle.tack_extension.proofs.Writing.{counted}
 
@@ -86,7 +86,7 @@ accepted-exactly s p byte = (
 -- where the writer answers with a number of bytes, those bytes read back as the same parts and activation, and no byte
 -- behind them is changed
 pub writer-reads : (t b : List ℕ) (a : ℕ) (out : List ℕ) (n : ℕ)
-    → writing (good (parts t b a)) (bytes_of (parts t b a)) out ≡ Written n
+    → writing (good (parts t b a)) (bytes_of (parts t b a)) out ≡ Ok n
     → (parse (take n (output (good (parts t b a)) (bytes_of (parts t b a)) out)) ≡ some (parts t b a))
     × (drop n (output (good (parts t b a)) (bytes_of (parts t b a)) out) ≡ drop n out)
 writer-reads t b a out n h =

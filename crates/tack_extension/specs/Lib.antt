@@ -1,4 +1,4 @@
 pub mod Extension
 pub mod Tack
 pub mod Answers
-pub mod Places
+pub mod Steps

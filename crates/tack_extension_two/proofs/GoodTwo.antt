@@ -13,7 +13,7 @@ use Rattle.octets.specs.Octets.{big_endian}
 use Rattle.octets.proofs.Tests.{and_left, and_right, and_both, or_cases, both_ways}
 use Rattle.tack_extension_two.specs.ExtensionTwo.{PartsTwo, parts_two, parts_in, tacks_length, flags_allowed, good_two, bytes_of_two}
 
-one-or-two : (n : ℕ) → tacks_length n ≡ true → (n ≡ 166) ⊎ (n ≡ 332)
+pub one-or-two : (n : ℕ) → tacks_length n ≡ true → (n ≡ 166) ⊎ (n ≡ 332)
 one-or-two n e = ⊎_elim (λ d. inl (eqb-true n 166 d)) (λ d. inr (eqb-true n 332 d)) (or_cases (eqb n 166) (eqb n 332) e)
 
 pub tacks-between : (n : ℕ) → tacks_length n ≡ true → (166 ≤ n) × (n ≤ 332)

@@ -1,5 +1,5 @@
 pub mod GoodTwo
 pub mod StepsTwo
-pub mod PlacesTwo
+pub mod ReadingTwo
 pub mod WritingTwo
 pub mod RoundTripTwo

@@ -9,7 +9,7 @@ use native.Mathlib.Omega.{arith}
 use lib.ListN.{length, take, drop}
 use Rattle.octets.specs.Octets.{Bytes}
 use Rattle.tack_extension.specs.Answers.{writing, output}
-use Rattle.tack_extension.specs.declared.answers.Writing.TheVariants.{Written}
+use Rattle.std.specs.Prelude.{Ok}
 use Rattle.tack_extension.proofs.RoundTrip.{length-rewrites, length_back}
 use Rattle.tack_extension.proofs.Writing.{counted}
 use Rattle.tack_extension_two.specs.ExtensionTwo.{PartsTwo, parts_in, tacks_length, good_two, bytes_of_two, tacks_step, flags_step, after_flags, after_tacks, parse_two}
@@ -53,7 +53,7 @@ accepted-exactly-two s p byte = (
 -- where the writer answers with a number of bytes, those bytes read back as the same parts and flags, and no byte behind
 -- them is changed
 pub writer-reads-two : (t : List ℕ) (f : ℕ) (out : List ℕ) (n : ℕ)
-    → writing (good_two (parts_in t f)) (bytes_of_two (parts_in t f)) out ≡ Written n
+    → writing (good_two (parts_in t f)) (bytes_of_two (parts_in t f)) out ≡ Ok n
     → (parse_two (take n (output (good_two (parts_in t f)) (bytes_of_two (parts_in t f)) out)) ≡ some (parts_in t f))
     × (drop n (output (good_two (parts_in t f)) (bytes_of_two (parts_in t f)) out) ≡ drop n out)
 writer-reads-two t f out n h =

@@ -1,8 +1,7 @@
 -- What the writer of edition two writes, piece by piece.
 use mathlib.Core.Path.{◌≡◌, sym, ◌∙◌}
 use mathlib.Core.List.{List, [], ◌∷◌, ◌++◌, append_assoc}
-use Prim.Native.Nat.{ℕ, ◌+◌, ◌%◌, ◌<◌}
-use native.Mathlib.Nat.{mod-eq_of_lt}
+use Prim.Native.Nat.{ℕ, ◌+◌}
 use native.Mathlib.Omega.{arith}
 use lib.ListN.{length, length-append}
 use Rattle.octets.specs.Octets.{big_endian}
@@ -15,7 +14,5 @@ module _ (t : List ℕ) (f : ℕ) where
   bytes-length-two = rw (bytes-in t f) (simp (length-append, big_endian-length) (omega arith))
 
   -- the pieces joined
-  pub joined-two : length t < 65536 → (([] ++ big_endian 2 (length t % 65536)) ++ t) ++ (f ∷ []) ≡ bytes_of_two (parts_in t f)
-  joined-two h =
-      let x : length t % 65536 ≡ length t = mod-eq_of_lt h in
-      append_assoc (big_endian 2 (length t % 65536)) t (f ∷ []) ∙ rw x (sym (bytes-in t f))
+  pub joined-two : (([] ++ big_endian 2 (length t)) ++ t) ++ (f ∷ []) ≡ bytes_of_two (parts_in t f)
+  joined-two = append_assoc (big_endian 2 (length t)) t (f ∷ []) ∙ sym (bytes-in t f)

@@ -1,3 +1,2 @@
 pub mod ExtensionTwo
 pub mod AnswersTwo
-pub mod PlacesTwo

@@ -6,18 +6,12 @@ ghost use Rattle.tack_extension_two.specs.ExtensionTwo.{tacks_length, flags_allo
 pub(crate) fn tacks_length(n: usize) -> bool
     ensures { result ≡ tacks_length n }
 {
-    if n == 166 {
-        return true;
-    }
-    n == 332
+    n == 166 || n == 332
 }
 
 // Whether tacks of this length may have these flags.
 pub(crate) fn flags_allowed(tacks: usize, flags: u8) -> bool
     ensures { result ≡ flags_allowed tacks flags }
 {
-    if tacks == 332 {
-        return flags < 4;
-    }
-    flags < 2
+    flags < if tacks == 332 { 4 } else { 2 }
 }

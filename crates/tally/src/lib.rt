@@ -2,49 +2,44 @@
 #![tactic(auto)]
 
 ghost use Rattle.std.specs.Prelude.{◌≡◌, [], get_or};
-ghost use Rattle.tally.specs.Tally.{raised, counted, tallied};
+ghost use Rattle.tally.specs.Tally.{counted, tallied};
 
 #[derive(Clone, Copy)]
 pub struct Tally {
     pub counts: [u32; 32],
 }
 
-// The tally from which a night begins.
-pub fn empty() -> Tally
-    ensures { result.counts ≡ tallied [] }
-{
-    Tally { counts: [0; 32] }
-}
-
-// One more, staying at the top.
-fn more(count: u32) -> u32
-    ensures { result ≡ raised count }
-{
-    if count == u32::MAX {
-        return count;
+impl Tally {
+    // The tally from which a night begins.
+    pub fn new() -> Tally
+        ensures { result.counts ≡ tallied [] }
+    {
+        Tally { counts: [0; 32] }
     }
-    count + 1
-}
 
-// The tally after one more answer. A number of 32 or more changes nothing.
-pub fn counted(tally: Tally, number: u8) -> Tally
-    ensures { result.counts ≡ counted number tally.counts }
-{
-    if number >= 32 {
-        return tally;
+    // The tally after one more answer of this number, its count staying at the top. A number of 32 or more changes nothing.
+    pub fn counted(self, number: u8) -> Tally
+        ensures { result.counts ≡ counted number self.counts }
+    {
+        let mut counts = self.counts;
+        let at = usize::from(number);
+        if at < counts.len() {
+            counts[at] = counts[at].saturating_add(1);
+        }
+        Tally { counts }
     }
-    let mut next = tally;
-    let at = number as usize;
-    next.counts[at] = more(next.counts[at]);
-    next
-}
 
-// How often a number was answered.
-pub fn times(tally: Tally, number: u8) -> u32
-    ensures { result ≡ get_or tally.counts number 0 }
-{
-    if number >= 32 {
-        return 0;
+    // Counts it in place.
+    pub fn count(&mut self, number: u8)
+        ensures { self.new.counts ≡ counted number self.old.counts }
+    {
+        *self = self.counted(number);
     }
-    tally.counts[number as usize]
+
+    // How often a number was answered.
+    pub fn times(&self, number: u8) -> u32
+        ensures { result ≡ get_or self.now.counts number 0 }
+    {
+        self.counts.get(usize::from(number)).copied().unwrap_or(0)
+    }
 }

@@ -3,27 +3,19 @@
 #![tactic(auto)]
 
 use std::io;
-use tack_extension::answers::Writing;
+use tack_extension::answers::WritingError;
 use tack_extension::reader;
-use tack_extension::reader::Reading;
 
 fn say(rt: &HostRuntime, words: &str, n: u64) -> io::Result<()> {
     println!(rt; "{words}: {n}")
 }
 
 // The number of an answer, or the bytes that it wrote.
-fn outcome(w: Writing) -> u64 {
+fn outcome(w: Result<usize, WritingError>) -> u64 {
     match w {
-        Writing::Written { bytes } => bytes as u64,
-        Writing::BadPart => 25,
-        Writing::NoSpace => 26,
-    }
-}
-
-fn number(r: Reading) -> u64 {
-    match r {
-        Reading::WellFormed { activation: _ } => 9,
-        Reading::Malformed => 16,
+        Ok(bytes) => bytes as u64,
+        Err(WritingError::BadPart) => 25,
+        Err(WritingError::NoSpace) => 26,
     }
 }
 
@@ -32,20 +24,14 @@ fn written(tack_length: usize, breaks_length: usize, space: usize) -> u64 {
     let tack = [17u8; 256];
     let breaks = [34u8; 2048];
     let mut out = [0u8; 2048];
-    if 256 < tack_length {
-        return 0;
-    }
-    if 2048 < breaks_length {
-        return 0;
-    }
-    if 2048 < space {
+    if 256 < tack_length || 2048 < breaks_length || 2048 < space {
         return 0;
     }
     outcome(extension_writer::write(
-        &tack[0..tack_length],
-        &breaks[0..breaks_length],
+        &tack[..tack_length],
+        &breaks[..breaks_length],
         1,
-        &mut out[0..space],
+        &mut out[..space],
     ))
 }
 
@@ -57,8 +43,11 @@ fn read(length: usize) -> u64 {
     if 1200 < length {
         return 0;
     }
-    extension_writer::write(&tack, &breaks, 1, &mut out);
-    number(reader::read(&out[0..length]))
+    let _ = extension_writer::write(&tack, &breaks, 1, &mut out);
+    match reader::read(&out[..length]) {
+        Some(_) => 9,
+        None => 16,
+    }
 }
 
 fn signed(tack_length: usize) -> u64 {
@@ -67,7 +56,7 @@ fn signed(tack_length: usize) -> u64 {
     if 256 < tack_length {
         return 0;
     }
-    outcome(extension_writer::write_signed_bytes(&tack[0..tack_length], &mut out))
+    outcome(extension_writer::write_signed_bytes(&tack[..tack_length], &mut out))
 }
 
 fn extensions(rt: &HostRuntime) -> io::Result<()> {
@@ -90,17 +79,13 @@ fn extensions(rt: &HostRuntime) -> io::Result<()> {
     say(rt, "the same for 167 bytes", signed(167))
 }
 
-fn answer(well_formed: bool) -> u64 {
-    if well_formed { 1 } else { 0 }
-}
-
 // One label of this many bytes.
 fn label(length: usize) -> u64 {
     let bytes = [97u8; 64];
     if 64 < length {
         return 0;
     }
-    answer(host_name::well_formed(&bytes[0..length]))
+    u64::from(host_name::well_formed(&bytes[..length]))
 }
 
 // A name of this many bytes, in labels of at most 63.
@@ -113,7 +98,7 @@ fn name(length: usize) -> u64 {
     if 254 < length {
         return 0;
     }
-    answer(host_name::well_formed(&bytes[0..length]))
+    u64::from(host_name::well_formed(&bytes[..length]))
 }
 
 fn main(rt: HostRuntime) -> io::Result<()> {

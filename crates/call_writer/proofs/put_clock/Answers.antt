@@ -1,17 +1,15 @@
--- Two pieces, one behind the other, are the field's bytes.
-use mathlib.Core.Path.{ap, ◌∙◌}
-use mathlib.Core.List.{List, [], ◌∷◌}
-use Prim.Native.Nat.{ℕ}
+-- The clock's four bytes are the field's value.
+use mathlib.Core.Path.{◌≡◌, ◌∙◌}
 use native.Mathlib.Omega.{arith}
-use Rattle.octets.specs.Octets.{put, big_endian}
-use Rattle.octets.proofs.Numbers.{big_endian-length}
-use Rattle.octets.proofs.Runs.{behind}
-use Rattle.call_writer.proofs.CallBytes.{clock-field}
+use Rattle.octets.specs.Octets.{big_endian}
+use Rattle.octets.proofs.Numbers.{big_endian-length, last-bytes}
 use Rattle.call_writer.proofs.put_clock.Goals as goal
+
+pub put_field-requires : goal.put_field-requires
+put_field-requires c = (omega arith, omega arith)
 
 pub returns : goal.returns
 returns c =
-    let a = c.args in
-    let size = big_endian-length 4 a.clock in
-    let e = behind a.out.now a.at (1 ∷ 0 ∷ 4 ∷ []) (big_endian 4 a.clock) size (omega arith) c.put_part-at_clock.ensures c.put_u32.ensures in
-    (omega arith, e.1 ∙ ap (λ (l : List ℕ). put a.out.now a.at l) (clock-field a.clock))
+    let bytes : c.to_be_bytes.result ≡ big_endian 4 c.args.clock = c.to_be_bytes.ensures ∙ last-bytes 4 c.args.clock (omega arith) in
+    let e = rw bytes at c.put_field.ensures in
+    (omega (arith, e.0, big_endian-length 4 c.args.clock), e.1)

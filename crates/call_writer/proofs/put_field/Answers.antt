@@ -14,6 +14,6 @@ returns c =
     let a = c.args in
     let v = a.value.now in
     let n = big_endian 2 (length v) in
-    let e = behind a.out.now a.at (a.tag ∷ []) n (big_endian-length 2 (length v)) (omega arith) c.put_part-at_length.ensures c.put_u16-at_value.ensures in
+    let e = behind a.out.now a.at (a.tag ∷ []) n (big_endian-length 2 (length v)) (omega arith) c.put_part-at_length.ensures c.put_number-at_value.ensures in
     let f = behind a.out.now a.at ((a.tag ∷ []) ++ n) v refl (omega (arith, big_endian-length 2 (length v))) e c.put_part.ensures in
     (omega (arith, f.0, field-length a.tag v), f.1)

@@ -6,7 +6,7 @@ use lib.ListN.{length, take}
 use lib.Dec.{eqb}
 use borrow.Author.Tests.{eq-eqb, ne_eqb}
 use Rattle.tack_extension.specs.Tack.{signed_bytes}
-use Rattle.tack_extension.specs.declared.answers.Writing.TheVariants.{Written}
+use Rattle.std.specs.Prelude.{Ok}
 use Rattle.tack_extension.proofs.Writing.{start, step, bad-part, no-space, written}
 use Rattle.extension_writer.proofs.ExtensionBytes.{signed-length}
 use Rattle.extension_writer.proofs.write_signed_bytes.Goals as goal
@@ -30,6 +30,6 @@ returns c =
     let a = c.args in
     let t = a.tack.now in
     let w₁ = step (116 ∷ 97 ∷ 99 ∷ 107 ∷ 95 ∷ 115 ∷ 105 ∷ 103 ∷ []) refl (start a.out.now) (omega arith) c.put_part-at.ensures in
-    let w₂ = step (take 102 t) refl w₁ (omega arith) c.put_part-end.ensures in
+    let w₂ = step (take 102 t) refl w₁ (omega arith) c.put_part.ensures in
     let w = written (eqb (length t) 166) (signed_bytes t) a.out.now (eq-eqb _ _ c.if-tack-ne166.false) (omega (arith, signed-length t c.if-tack-ne166.false)) in
-    record { answer = ap Written w₂.place ∙ w.0; written = w₂.bytes ∙ w.1 }
+    record { answer = ap Ok w₂.place ∙ w.0; written = w₂.bytes ∙ w.1 }

@@ -1,20 +1,14 @@
-use mathlib.Core.Path.{refl, sym, ◌∙◌}
-use native.Mathlib.Omega.{arith}
-use borrow.Author.Rules.{rules}
+-- Each turn of the fold answers for one byte more.
+use Rattle.std.proofs.Common.{◌≡◌, Bool, List, ℕ, true, ◌&&◌, refl, rules, tests, ap, ◌∙◌}
+use Rattle.std.proofs.lemmas.Fn.{fold_over, fronts, slice_gives}
+use Rattle.octets.specs.Octets.{all}
 use Rattle.host_name.specs.Scan.{name_byte}
-use Rattle.host_name.proofs.Steps.{all-next, all_end}
+use Rattle.host_name.proofs.Steps.{all-snoc}
 use Rattle.host_name.proofs.only_name_bytes.Goals as goal
-
-pub loop-i-init : goal.loop-i-init
-loop-i-init c = (search rules, refl)
-
-pub loop-i-preserved : goal.loop-i-preserved
-loop-i-preserved c =
-    let s = c.args.name.now in
-    let o = c.loop-i in
-    (search rules, rw c.name_byte-only.ensures (o.invariant.1 ∙ all-next name_byte s o.i o.only (omega arith)))
 
 pub returns : goal.returns
 returns c =
-    let o = c.loop-i in
-    sym (o.invariant.1 ∙ all_end name_byte c.args.name.now o.i o.only (omega arith))
+    rw c.iter.ensures.rest at
+    (fold_over fronts (λ y. y.now) _ (λ (xs : List ℕ) (r : Bool). r ≡ all name_byte xs) _
+    (λ ys a x b f' h k. let e : b ≡ (a && name_byte x.now) = search (rules, tests) in (e ∙ ap (λ (t : Bool). t && name_byte x.now) h ∙ all-snoc name_byte ys x.now, refl))
+    c.iter.result _ true c.fold.result (slice_gives c.iter.result) refl c.fold.ensures.ran)

@@ -1,11 +1,6 @@
--- The loop's invariant: the bytes below i agree.
-use mathlib.Core.Path.{◌≡◌}
-use Prim.Native.Nat.{ℕ, ◌+◌, ◌-◌, ◌≤◌, ◌<◌}
-use lib.ListN.{get_or}
+-- The loop's invariant: the words below i agree.
+use Rattle.std.proofs.Common.{◌≡◌, ◌+◌, ◌<◌, ℕ, ◌*◌, get_or}
 use Rattle.octets.proofs.same_at.Given as goal
 
 abbrev pub invariant-loop-i : goal.invariant-loop-i
-invariant-loop-i l = (l.i ≤ l.last + 7) × ((j : ℕ) → j < l.i → get_or l.s (l.at + j) 0 ≡ get_or l.p j 0)
-
-abbrev pub decreases-loop-i : goal.decreases-loop-i
-decreases-loop-i l = l.last + 8 - l.i
+invariant-loop-i l = (j : ℕ) → j < 8 * l.i → get_or l.s (l.at + j) 0 ≡ get_or l.p j 0

@@ -1,18 +1,18 @@
-use mathlib.Core.Path.{sym, ap, ap₂, ◌∙◌}
-use mathlib.Core.Bool.{◌&&◌}
-use native.Mathlib.Nat.{le_antisymm}
-use native.Mathlib.Omega.{arith}
-use Rattle.octets.specs.Search.{every}
-use Rattle.octets.proofs.Search.{every-none, every_more}
+-- Each turn of the fold answers for one byte more.
+use Rattle.std.proofs.Common.{◌≡◌, Bool, List, ℕ, ◌+◌, true, ◌&&◌, get_or, refl, rules, tests, ap, ◌∙◌, arith}
+use Rattle.std.proofs.iter.Yields.{nat_range_steps}
+use Rattle.std.proofs.lemmas.Fn.{fold_over}
+use Rattle.std.proofs.lemmas.Iterator.{YieldsList-from_range}
+use Rattle.octets.specs.Octets.{all}
+use Rattle.host_name.proofs.Steps.{all-snoc}
+use Rattle.padded_name.specs.Neighbours.{neighbours}
+use Rattle.padded_name.proofs.PaddedNames.{all-range}
 use Rattle.padded_name.proofs.all_neighbours.Goals as goal
 
-pub loop-i-init : goal.loop-i-init
-loop-i-init c = (omega arith, every-none _)
-
-pub loop-i-preserved : goal.loop-i-preserved
-loop-i-preserved c =
-    let turn = c.loop-i in
-    (omega arith, ap₂ ◌&&◌ turn.invariant.1 c.neighbours-all.ensures ∙ sym (every_more _ turn.i))
-
 pub returns : goal.returns
-returns c = c.loop-i.invariant.1 ∙ ap (every _) (le_antisymm c.loop-i.invariant.0 c.loop-i-test.false)
+returns g c =
+    let p = λ (i : ℕ). neighbours (get_or c.args.padded.now i 0) (get_or c.args.padded.now (i + 1) 0) in
+    fold_over nat_range_steps (λ i. i) _ (λ (xs : List ℕ) (r : Bool). r ≡ all p xs) _
+    (λ ys a x b f' h k. let e : b ≡ (a && p x) = search (rules, tests) in (e ∙ ap (λ (t : Bool). t && p x) h ∙ all-snoc p ys x, search (rules, tests)))
+    _ _ true c.fold.result (YieldsList-from_range 0 g.row.M g.row.M refl (omega arith)).runs refl c.fold.ensures.ran
+    ∙ all-range p g.row.M

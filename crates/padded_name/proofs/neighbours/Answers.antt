@@ -4,4 +4,4 @@ use Rattle.padded_name.proofs.neighbours.Goals as goal
 
 pub returns : goal.returns
 unfolding neighbours
-returns c = rw (c.name_byte.ensures, c.greater.ensures)
+returns c = rw (c.name_byte.ensures, c.max.ensures)

@@ -11,9 +11,9 @@ returns-then-n-eq0 c = sym (none-formed c.args.padded.now c.args.n _ c.if-n-eq0.
 
 pub returns-then-not-well_formed : goal.returns-then-not-well_formed
 returns-then-not-well_formed c =
-    sym (rw (sym (ap well_formed (part-lent c.args.padded.now 0 c.args.n c.args.n (omega arith) (omega arith)).0) ∙ sym c.well_formed-2.ensures ∙ c.if-not-well_formed.true))
+    sym (rw (sym (ap well_formed (part-lent c.args.padded.now 0 c.args.n c.args.n (omega arith) (omega arith)).0) ∙ sym c.if-not-well_formed.ensures))
 
 pub returns : goal.returns
 returns c =
     c.zeros_at.ensures
-    ∙ sym (rw (sym (ap well_formed (part-lent c.args.padded.now 0 c.args.n c.args.n (omega arith) (omega arith)).0) ∙ sym c.well_formed-2.ensures ∙ c.if-not-well_formed.false))
+    ∙ sym (rw (sym (ap well_formed (part-lent c.args.padded.now 0 c.args.n c.args.n (omega arith) (omega arith)).0) ∙ sym c.if-not-well_formed.ensures))

@@ -1,33 +1,67 @@
--- 12, 13, and the rest at the clock's minutes.
-use mathlib.Core.Path.{sym, ◌∙◌}
-use Rattle.pin_model.specs.Connection.{connection}
-use borrow.Author.Rules.{rules}
-use Rattle.pin_refusals.proofs.Clocks.{above, within}
-use Rattle.pin_judge_two.proofs.PassingTwo.{admitted, refused-name, refused-limit}
+-- Each refusal is the first that applies; where none does, the steps give the answer.
+use mathlib.Core.Path.{sym, ap, ◌∙◌}
+use mathlib.Core.List.{[]}
+use Rattle.std.proofs.Common.{rules}
+use Rattle.std.proofs.lemmas.Result.{err_from_is_err_and}
+use Rattle.tack_extension_two.specs.AnswersTwo.{parts_read_two}
+use Rattle.pin_model.specs.Seen.{seen}
+use Rattle.pin_refusals.proofs.Passed.{area-passes, given-error, ready}
+use Rattle.pin_refusals_two.specs.Parts.{tacks_in_order}
+use Rattle.pin_judge_two.proofs.JudgedTwo.{refused-call, refused-handshake, ready-for, refused-form, refused-tacks, judged-so}
 use Rattle.pin_judge_two.proofs.judge_folded.Goals as goal
 
-pub returns-then-not-well_formed : goal.returns-then-not-well_formed
-returns-then-not-well_formed c =
-    let it = connection c.args.clock c.args.name.now c.args.extension_came c.args.extension.now
-    c.args.hash.now c.args.checks in
-    let w = refused-name it c.args.area.now c.requires.0 c.requires.1 (sym c.well_formed-2.ensures ∙ c.if-not-well_formed.true) in
-    record { answer = w.0; area = w.1 }
+pub returns-in_err-clock : goal.returns-in_err-clock
+returns-in_err-clock c =
+    let k = seen c.args.connection.now in
+    let p = err_from_is_err_and c.from_residual.result c.from_residual.ensures.1 in
+    let w = refused-call k c.args.area.now c.requires.0 c.requires.1 c.in_err-clock.ensures.answer in
+    record { answer = rw (p.1, p.2) w.0; area = w.1 }
 
-pub returns-in_default : goal.returns-in_default
-returns-in_default c =
-    let it = connection c.args.clock c.args.name.now c.args.extension_came c.args.extension.now
-    c.args.hash.now c.args.checks in
-    let w = refused-limit it c.args.area.now c.requires.0 c.requires.1 (sym c.well_formed-2.ensures ∙ c.if-not-well_formed.false)
-    (above _ c.in_default.ensures) in
-    record { answer = w.0; area = w.1 }
+pub check_handshake-requires : goal.check_handshake-requires
+check_handshake-requires c = (ready _ [] (λ i. search rules) (area-passes _ c.requires.0)).stored
 
-pub judge_at-requires : goal.judge_at-requires
-judge_at-requires c =
-    let in_time = within _ _ c.in-At.ensures in
-    admitted c.args.area.now c.args.name.now _ (λ i. search rules) c.requires.0 c.requires.1
-    (sym c.well_formed-2.ensures ∙ c.if-not-well_formed.false) in_time.in_limit
+pub returns-in_err-check_handshake : goal.returns-in_err-check_handshake
+returns-in_err-check_handshake c =
+    let k = seen c.args.connection.now in
+    let r = c.from_residual-in_err-check_handshake in
+    let p = err_from_is_err_and r.result r.ensures.1 in
+    let called = c.in_ok-clock.ensures in
+    let w = refused-handshake k c.args.area.now c.requires.0 c.requires.1 called.answer called.clock c.in_err-check_handshake.ensures in
+    record { answer = rw (p.1, p.2) w.0; area = w.1 }
+
+pub returns-in_err-tacks : goal.returns-in_err-tacks
+returns-in_err-tacks c =
+    let k = seen c.args.connection.now in
+    let r = c.from_residual-in_err-tacks in
+    let p = err_from_is_err_and r.result r.ensures.1 in
+    let called = c.in_ok-clock.ensures in
+    let nothing = c.in_err-tacks.ensures in
+    let w = refused-form k c.args.area.now c.requires.0 c.requires.1 called.answer called.clock c.in_ok-check_handshake.ensures
+    (sym (ap parts_read_two nothing.ok_part) ∙ c.read_extension.ensures) in
+    record { answer = rw (p.1, p.2, given-error _ nothing.value nothing.ok_part) w.0; area = w.1 }
+
+pub check_tacks-requires : goal.check_tacks-requires
+check_tacks-requires c = (ready _ [] (λ i. search rules) (area-passes _ c.requires.0)).stored
+
+pub returns-in_err-check_tacks : goal.returns-in_err-check_tacks
+returns-in_err-check_tacks c =
+    let k = seen c.args.connection.now in
+    let r = c.from_residual-in_err-check_tacks in
+    let p = err_from_is_err_and r.result r.ensures.1 in
+    let called = c.in_ok-clock.ensures in
+    let w = refused-tacks k c.args.area.now c.requires.0 c.requires.1 called.answer called.clock c.in_ok-check_handshake.ensures
+    c.in_ok-tacks.tacks (sym (ap parts_read_two c.in_ok-tacks.ensures.ok_part) ∙ c.read_extension.ensures) c.in_err-check_tacks.ensures in
+    record { answer = rw (p.1, p.2) w.0; area = w.1 }
+
+pub apply-requires : goal.apply-requires
+apply-requires c =
+    let called = c.in_ok-clock.ensures in
+    ready-for (seen c.args.connection.now) c.args.area.now c.requires.0 c.requires.1 called.answer called.clock c.in_ok-check_handshake.ensures
+    (λ i. search rules) (tacks_in_order c.in_ok-tacks.tacks)
 
 pub returns : goal.returns
 returns c =
-    let in_time = within _ _ c.in-At.ensures in
-    rw in_time.its at c.judge_at.ensures
+    let called = c.in_ok-clock.ensures in
+    let w = judged-so (seen c.args.connection.now) c.args.area.now c.requires.0 c.requires.1 called.answer called.clock c.in_ok-check_handshake.ensures
+    c.in_ok-tacks.tacks (sym (ap parts_read_two c.in_ok-tacks.ensures.ok_part) ∙ c.read_extension.ensures) c.in_ok-check_tacks.ensures c.apply.ensures in
+    record { answer = w.0; area = w.1 }

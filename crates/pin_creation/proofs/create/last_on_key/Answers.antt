@@ -1,17 +1,27 @@
-use mathlib.Core.Path.{sym, ◌∙◌}
-use native.Mathlib.Omega.{arith}
-use Rattle.pin_creation.proofs.RoomFound.{pin_at, not_last, is_last}
+-- Every slot is the record's own, or its record is pinned to another key.
+use mathlib.Core.Path.{◌≡◌, refl, ap, ◌∙◌}
+use mathlib.Core.Bool.{false, not, ◌||◌}
+use mathlib.Core.Option.{none}
+use lib.Dec.{eqb}
+use lib.ListN.{get_or}
+use Rattle.std.proofs.Common.{rules}
+use Rattle.std.proofs.iter.Serving.{serving}
+use Rattle.pin_model.specs.Layout.{decode}
+use Rattle.pin_model.specs.Fits.{holds}
+use Rattle.pin_table.proofs.Ranges.{all-below, below}
+use Rattle.pin_records.specs.Find.{is_free}
+use Rattle.pin_creation.proofs.RoomFound.{pin_at, on_key, alone}
 use Rattle.pin_creation.proofs.create.last_on_key.Goals as goal
 
-pub refers_to-requires : goal.refers_to-requires
-refers_to-requires c =
-    (c.requires.0, c.loop-m-test.true, c.key_of-k.ensures.0, (pin_at c.requires.0 c.args.n.0 _ c.requires.2 c.key_of-k.ensures.1).in_use)
-
-pub returns-then-refers_to : goal.returns-then-refers_to
-returns-then-refers_to c =
-    not_last c.requires.0 c.args.n.0 c.key_of-k.result.0 c.requires.2 c.key_of-k.ensures.1 c.loop-m.m c.if-m-own.true
-    (sym c.refers_to.ensures ∙ c.if-refers_to.true)
+pub all-requires-clause-callable : goal.all-requires-clause-callable
+all-requires-clause-callable c =
+    let u : is_free (get_or (decode c.args.area.now).keys c.key_of-k.result none) ≡ false =
+    (pin_at c.requires.0 c.args.n _ c.requires.1 c.key_of-k.ensures.1).in_use in
+    grind serving
 
 pub returns : goal.returns
 returns c =
-    is_last c.requires.0 c.args.n.0 c.key_of-k.result.0 c.requires.2 c.key_of-k.ensures.1 c.loop-m.m (omega arith) c.loop-m.invariant.1
+    let t = decode c.args.area.now in
+    let k = c.key_of-k.result in
+    all-below (λ m. eqb m c.args.n || not (holds (on_key t k) (get_or t.names m none))) 128 _ _ _ c.all.ensures.ran (below 128 refl) (λ x b q k. search rules)
+    ∙ alone c.requires.0 c.args.n k c.requires.1 c.key_of-k.ensures.1

@@ -14,15 +14,13 @@ store_new-requires c =
     let tack = c.args.tack.now in
     let clock = c.args.clock.0 in
     let t = decode c.args.area.now in
-    let x = name-held name t.names c.args.n.0 c.requires.1 c.requires.5 in
-    let g = removed name tack clock t c.requires.4 c.requires.7 c.requires.8 x c.requires.6 c.clear_name.ensures c.drop_unnamed.ensures in (
+    let x = name-held name t.names c.args.n c.requires.0.fits.name_slots c.requires.3 in
+    let g = removed name tack clock t c.requires.2 c.requires.5 c.requires.6 x c.requires.4 c.clear_name.ensures c.drop_unnamed.ensures in (
       holds-stored g,
       c.requires.1,
-      c.requires.2,
-      c.requires.3,
-      unrecorded-fresh name (public_key tack) (holds-stored g) c.args.n.0 c.requires.1
-          (removed-name name tack clock t c.requires.4 c.requires.7 c.requires.8 x c.requires.6 g),
-      removed-room name tack clock t c.requires.4 c.requires.7 c.requires.8 x c.requires.6 g,
+      unrecorded-fresh name (public_key tack) (holds-stored g) c.args.n x.below
+          (removed-name name tack clock t c.requires.2 c.requires.5 c.requires.6 x c.requires.4 g),
+      removed-room name tack clock t c.requires.2 c.requires.5 c.requires.6 x c.requires.4 g,
     )
 
 pub returns : goal.returns
@@ -31,6 +29,6 @@ returns c =
     let tack = c.args.tack.now in
     let clock = c.args.clock.0 in
     let t = decode c.args.area.now in
-    let x = name-held name t.names c.args.n.0 c.requires.1 c.requires.5 in
-    let g = removed name tack clock t c.requires.4 c.requires.7 c.requires.8 x c.requires.6 c.clear_name.ensures c.drop_unnamed.ensures in
-    replaced name tack clock t c.requires.4 c.requires.7 c.requires.8 x c.requires.6 g c.store_new.ensures
+    let x = name-held name t.names c.args.n c.requires.0.fits.name_slots c.requires.3 in
+    let g = removed name tack clock t c.requires.2 c.requires.5 c.requires.6 x c.requires.4 c.clear_name.ensures c.drop_unnamed.ensures in
+    replaced name tack clock t c.requires.2 c.requires.5 c.requires.6 x c.requires.4 g c.store_new.ensures

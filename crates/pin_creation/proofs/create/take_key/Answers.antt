@@ -1,35 +1,28 @@
--- The key's old record, or a new one in the lowest free slot; that there is none contradicts the room.
-use Rattle.pin_records.proofs.Found.{key-absent, key-free-at, keys-full}
-use Rattle.pin_steps.proofs.Tacks.{key-length, tack-key-at, tack-key-absent}
-use Rattle.pin_creation.proofs.KeyTaken.{key-kept, key-made, key-refused}
+-- The key's old record, or a new one in the lowest free slot, which the room is for.
+use mathlib.Core.Path.{sym, ◌∙◌}
+use Rattle.pin_records.proofs.Found.{key-absent, found-free}
+use Rattle.pin_steps.proofs.Tacks.{tack-key-at, tack-key-absent}
+use Rattle.pin_creation.proofs.RoomFound.{found-free-slot}
+use Rattle.pin_creation.proofs.KeyTaken.{key-kept, key-made, room-free}
 use Rattle.pin_creation.proofs.create.take_key.Goals as goal
 
-pub find_key-requires : goal.find_key-requires
-find_key-requires c =
-    (c.requires.0, key-length c.args.tack.now c.public_key-key.ensures c.requires.1)
-
-pub returns-in-At : goal.returns-in-At
-returns-in-At c =
+pub returns-in-Some : goal.returns-in-Some
+returns-in-Some c =
     let tack = c.args.tack.now in
-    key-kept tack c.requires.0 _ (tack-key-at tack c.public_key-key.ensures c.requires.0 _ c.in-At.ensures)
+    key-kept tack c.requires.0 _ (tack-key-at tack c.public_key-key.ensures c.requires.0 _ c.in-Some.ensures)
 
-pub returns-in_default-free_key : goal.returns-in_default-free_key
-returns-in_default-free_key c =
+pub unwrap-k-requires : goal.unwrap-k-requires
+unwrap-k-requires c =
     let tack = c.args.tack.now in
-    absurd
-    (key-refused tack c.requires.0
-    (tack-key-absent tack c.public_key-key.ensures c.requires.0 c.in_default.ensures)
-    (keys-full _ c.requires.0.fits.key_slots c.in_default-free_key.ensures) c.requires.2)
+    found-free-slot _ c.requires.0.fits.key_slots _ c.free_key.ensures
+    ∙ room-free tack c.requires.0 (tack-key-absent tack c.public_key-key.ensures c.requires.0 c.in_default.ensures) c.requires.1
 
 pub store_key-requires : goal.store_key-requires
-store_key-requires c =
-    let f = key-free-at _ c.requires.0.fits.key_slots _ c.in-At-free_key.ensures in (
-      c.requires.0,
-      f.below,
-      f.free,
-      key-length c.args.tack.now c.public_key-key.ensures c.requires.1,
-      key-absent _ c.requires.0.fits.key_slots _ c.in_default.ensures,
-    )
+store_key-requires c = (
+  c.requires.0,
+  (found-free _ c.requires.0.fits.key_slots _ (sym c.unwrap-k.ensures ∙ c.free_key.ensures)).free,
+  key-absent _ c.requires.0.fits.key_slots _ c.in_default.ensures,
+)
 
 pub returns : goal.returns
 returns c =
@@ -37,4 +30,4 @@ returns c =
     let key = c.public_key-key.ensures in
     key-made tack c.requires.0
     (tack-key-absent tack key c.requires.0 c.in_default.ensures) _
-    (key-free-at _ c.requires.0.fits.key_slots _ c.in-At-free_key.ensures) key c.min_generation.ensures c.store_key.ensures
+    (found-free _ c.requires.0.fits.key_slots _ (sym c.unwrap-k.ensures ∙ c.free_key.ensures)) key c.min_generation.ensures c.store_key.ensures

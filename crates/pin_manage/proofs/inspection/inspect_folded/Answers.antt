@@ -1,54 +1,44 @@
 -- Each answer is the definition's.
-use mathlib.Core.Path.{sym, ap, ◌∙◌}
-use mathlib.Core.Option.{none}
-use Prim.Native.Nat.{ℕ}
-use lib.ListN.{get_or}
+use mathlib.Core.Path.{sym, ◌∙◌}
+use mathlib.Core.List.{[]}
+use Rattle.std.proofs.lemmas.Result.{err_from_is_err_and}
 use Rattle.pin_model.specs.Layout.{decode}
-use Rattle.pin_model.specs.Refusals.{name_test}
 use Rattle.pin_refusals.proofs.Passed.{ready}
-use Rattle.pin_refusals.proofs.Clocks.{above, within}
-use Rattle.pin_manage.specs.Inspected.{inspected_slot}
-use Rattle.pin_manage.proofs.Looked.{inspect-refused, inspect-late, inspect-nothing, inspect-found, record-used}
+use Rattle.pin_manage.proofs.Looked.{inspect-refused, inspect-malformed, inspect-nothing, inspect-found, record-used}
 use Rattle.pin_manage.proofs.inspection.inspect_folded.Goals as goal
 
-pub returns-in-Refused : goal.returns-in-Refused
-returns-in-Refused c =
+pub returns-in_err-check_area : goal.returns-in_err-check_area
+returns-in_err-check_area c =
     let a = c.args in
-    inspect-refused a.second a.area.now a.name.now a.clock _ (sym c.in-Refused.ensures)
+    let p = err_from_is_err_and c.from_residual.result c.from_residual.ensures.1 in
+    rw (p.1, p.2) (inspect-refused a.second a.area.now a.name.now a.clock c.in_err-check_area.ensures)
 
-pub returns-in_default-of_clock : goal.returns-in_default-of_clock
-returns-in_default-of_clock c =
+pub returns-in_err-clock : goal.returns-in_err-clock
+returns-in_err-clock c =
     let a = c.args in
-    inspect-late a.second a.area.now a.name.now a.clock (sym c.in_default.ensures)
-    (above _ c.in_default-of_clock.ensures)
+    let r = c.from_residual-in_err-clock in
+    let p = err_from_is_err_and r.result r.ensures.1 in
+    rw (p.1, p.2) (inspect-malformed a.second a.area.now a.name.now a.clock c.in_ok-check_area.ensures c.in_err-clock.ensures.answer)
 
 pub find_record-requires : goal.find_record-requires
-find_record-requires c =
-    let a = c.args in
-    (ready a.area.now (name_test a.name.now) (λ i. (c.type_inv.area i).fits) (sym c.in_default.ensures)).stored
+find_record-requires c = (ready c.args.area.now [] (λ i. (c.type_inv.area i).fits) (sym c.in_ok-check_area.ensures)).stored
 
-pub returns-in_default-find_record : goal.returns-in_default-find_record
-returns-in_default-find_record c =
+pub returns-in_default : goal.returns-in_default
+returns-in_default c =
     let a = c.args in
-    let passed = sym c.in_default.ensures in
-    let t = within a.clock c.in-At.at c.in-At.ensures in
-    inspect-nothing a.second a.area.now a.name.now a.clock passed t.passes
-    (ready a.area.now (name_test a.name.now) (λ i. (c.type_inv.area i).fits) passed).stored
-    c.in_default-find_record.ensures
+    let area_passed = c.in_ok-check_area.ensures in
+    inspect-nothing a.second a.area.now a.name.now a.clock area_passed c.in_ok-clock.ensures.answer
+    (ready a.area.now [] (λ i. (c.type_inv.area i).fits) (sym area_passed)).stored c.in_default.ensures
 
 pub inspect_slot-requires : goal.inspect_slot-requires
 inspect_slot-requires c =
     let a = c.args in
-    let w = ready a.area.now (name_test a.name.now) (λ i. (c.type_inv.area i).fits) (sym c.in_default.ensures) in
-    let u = record-used a.second a.name.now (decode a.area.now).names w.stored.fits.name_slots c.in-At-find_record.n c.in-At-find_record.ensures in
-    (w.stored, u.0, u.1)
+    let w = ready a.area.now [] (λ i. (c.type_inv.area i).fits) (sym c.in_ok-check_area.ensures) in
+    (w.stored, record-used a.second a.name.now (decode a.area.now).names w.stored.fits.name_slots c.in-Some.n c.in-Some.ensures)
 
 pub returns : goal.returns
 returns c =
-    let n = c.in-At-find_record.n in
     let a = c.args in
-    let t = within a.clock c.in-At.at c.in-At.ensures in
+    let called = c.in_ok-clock.ensures in
     c.inspect_slot.ensures
-    ∙ ap (λ (clock : ℕ). inspected_slot clock (decode a.area.now).keys (get_or (decode a.area.now).names n.0 none)) t.its
-    ∙ inspect-found a.second a.area.now a.name.now a.clock (sym c.in_default.ensures) t.passes n
-    c.in-At-find_record.ensures
+    ∙ inspect-found a.second a.area.now a.name.now a.clock c.in_ok-check_area.ensures called.answer c.in-Some.n c.in-Some.ensures called.clock

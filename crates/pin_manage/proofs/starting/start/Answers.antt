@@ -9,6 +9,5 @@ returns-then-area-ne-AREA_LENGTH c =
 
 pub returns : goal.returns
 returns c =
-    let a = c.args in
-    let w = started a.edition_two a.area.now c.if-area-ne-AREA_LENGTH.false c.put_zeros.ensures.1 in
+    let w = started c.args.edition_two c.args.area.now c.if-area-ne-AREA_LENGTH.false (c.fill.ensures.after (λ y e. e)) c.from.ensures in
     record { answer = w.0; area = w.1 }

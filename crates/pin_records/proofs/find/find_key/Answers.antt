@@ -1,10 +1,15 @@
-use mathlib.Core.Path.{sym, ◌∙◌}
-use native.Mathlib.Omega.{arith}
-use Rattle.pin_records.proofs.Found.{key-at, key-nowhere}
+-- The slots are asked in turn.
+use Rattle.std.proofs.Common.{rules, get_or}
+use Rattle.std.proofs.Math.Option.{none}
+use Rattle.pin_model.specs.Layout.{decode}
+use Rattle.pin_model.specs.Table.{key_is}
+use Rattle.pin_model.specs.Fits.{holds}
+use Rattle.pin_table.proofs.Ranges.{mapped, lowest-between}
+use Rattle.pin_records.proofs.Found.{lowest-slot}
 use Rattle.pin_records.proofs.find.find_key.Goals as goal
 
-pub returns-then-holds_key : goal.returns-then-holds_key
-returns-then-holds_key c = key-at _ _ c.requires.0.fits.key_slots _ c.loop-k-test.true c.loop-k.invariant.1 (sym c.holds_key.ensures ∙ c.if-holds_key.true)
-
 pub returns : goal.returns
-returns c = key-nowhere _ _ c.requires.0.fits.key_slots (λ j l. c.loop-k.invariant.1 j (omega arith))
+returns c =
+    let t = decode c.args.area.now in
+    lowest-slot (holds (key_is c.args.key.now)) t.keys 64 c.requires.fits.key_slots c.find.result
+    (lowest-between (λ k. (holds (key_is c.args.key.now)) (get_or t.keys k none)) 0 64 _ _ c.find.result c.find.ensures.ran (mapped _ 0 64 c.map.ensures.source c.map.ensures.closure (λ x r q k. search rules)) (λ x b q k. search rules))

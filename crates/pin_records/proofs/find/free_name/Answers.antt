@@ -1,10 +1,14 @@
-use mathlib.Core.Path.{sym, ◌∙◌}
-use native.Mathlib.Omega.{arith}
-use Rattle.pin_records.proofs.Found.{name-at, name-nowhere}
+-- The slots are asked in turn.
+use Rattle.std.proofs.Common.{rules, get_or}
+use Rattle.std.proofs.Math.Option.{none}
+use Rattle.pin_model.specs.Layout.{decode}
+use Rattle.pin_records.specs.Find.{is_free}
+use Rattle.pin_table.proofs.Ranges.{mapped, lowest-between}
+use Rattle.pin_records.proofs.Found.{lowest-slot}
 use Rattle.pin_records.proofs.find.free_name.Goals as goal
 
-pub returns-then-name_is_free : goal.returns-then-name_is_free
-returns-then-name_is_free c = name-at _ _ c.requires.fits.name_slots _ c.loop-n-test.true c.loop-n.invariant.1 (sym c.name_is_free.ensures ∙ c.if-name_is_free.true)
-
 pub returns : goal.returns
-returns c = name-nowhere _ _ c.requires.fits.name_slots (λ j l. c.loop-n.invariant.1 j (omega arith))
+returns c =
+    let t = decode c.args.area.now in
+    lowest-slot is_free t.names 128 c.requires.fits.name_slots c.find.result
+    (lowest-between (λ k. is_free (get_or t.names k none)) 0 128 _ _ c.find.result c.find.ensures.ran (mapped _ 0 128 c.map.ensures.source c.map.ensures.closure (λ x r q k. search rules)) (λ x b q k. search rules))

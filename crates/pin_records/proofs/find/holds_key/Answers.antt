@@ -1,13 +1,17 @@
 -- By the slot's bytes: whether it is used, then its key.
-use mathlib.Core.Path.{sym, ◌∙◌}
-use Rattle.pin_table.proofs.Rules.{no, yes}
+use Rattle.std.proofs.Common.{◌≡◌, sym, ◌∙◌, true, false}
+use Rattle.pin_model.specs.Layout.{is_used}
 use Rattle.pin_records.proofs.SlotBytes.{key-read, read-unused, read-key}
 use Rattle.pin_records.proofs.find.holds_key.Goals as goal
 
-pub returns-then-not-is_used : goal.returns-then-not-is_used
-returns-then-not-is_used c = sym (read-unused (key-read _ _ c.requires.1 c.key_slot-s.ensures.0) _ (no c.is_used.ensures c.if-not-is_used.true))
+pub returns-then-is_used : goal.returns-then-is_used
+returns-then-is_used c =
+    let slot = c.key_slot-s.ensures in
+    let used : is_used c.key_slot-s.result.now ≡ true = cc in
+    c.same_64_at.ensures ∙ read-key _ (key-read _ _ slot.1 slot.0) used
 
-pub returns : goal.returns
-returns c =
-    c.same_64_at.ensures
-    ∙ read-key _ (key-read _ _ c.requires.1 c.key_slot-s.ensures.0) (yes c.is_used.ensures c.if-not-is_used.false)
+pub returns-else-is_used : goal.returns-else-is_used
+returns-else-is_used c =
+    let slot = c.key_slot-s.ensures in
+    let free : is_used c.key_slot-s.result.now ≡ false = cc in
+    c.if-is_used.false ∙ sym (read-unused (key-read _ _ slot.1 slot.0) _ free)

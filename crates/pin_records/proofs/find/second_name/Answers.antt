@@ -1,25 +1,21 @@
-use native.Mathlib.Omega.{arith}
-use mathlib.Core.Path.{sym}
-use Rattle.pin_records.proofs.SecondSlots.{no-first, first_below, second-found, second-missing}
+-- The slots behind the first are asked in turn.
+use Rattle.std.proofs.Common.{sym, ◌∙◌, rules, get_or, ◌+◌}
+use Rattle.std.proofs.Math.Option.{none}
+use Rattle.pin_model.specs.Table.{name_is}
+use Rattle.pin_model.specs.Layout.{decode}
+use Rattle.pin_model.specs.Fits.{holds}
+use Rattle.pin_table.proofs.Ranges.{mapped, lowest-between}
+use Rattle.pin_records.proofs.SecondSlots.{no-first, second-lowest}
 use Rattle.pin_records.proofs.find.second_name.Goals as goal
 
-pub returns-in_default : goal.returns-in_default
-returns-in_default c = no-first _ _ c.requires.fits.name_slots c.in_default.ensures
-
-pub overflow_add-n : goal.overflow_add-n
-overflow_add-n c = omega (arith, first_below _ _ c.requires.fits.name_slots _ c.in-At.ensures)
-
-pub loop-n-init : goal.loop-n-init
-loop-n-init c =
-    let l = first_below _ _ c.requires.fits.name_slots _ c.in-At.ensures in
-    (omega arith, omega (arith, l), λ j k d. absurd (omega arith))
-
-pub returns-then-holds_name : goal.returns-then-holds_name
-returns-then-holds_name c =
-    second-found _ _ c.requires.fits.name_slots c.in-At.first c.in-At.ensures _
-    c.loop-n.invariant.0 c.loop-n-test.true c.loop-n.invariant.2 (sym c.if-holds_name.ensures)
+pub returns-in_err-first : goal.returns-in_err-first
+returns-in_err-first c =
+    c.from_residual.ensures
+    ∙ no-first (holds (name_is c.args.name.now)) (decode c.args.area.now).names 128 c.requires.fits.name_slots (sym c.in_err-first.was ∙ c.find_name.ensures)
 
 pub returns : goal.returns
 returns c =
-    second-missing _ _ c.requires.fits.name_slots c.in-At.first c.in-At.ensures
-    (λ j l d. c.loop-n.invariant.2 j (omega arith) d)
+    let t = decode c.args.area.now in
+    let first = c.in_ok-first.first in
+    second-lowest (holds (name_is c.args.name.now)) t.names 128 c.requires.fits.name_slots first (sym c.in_ok-first.was ∙ c.find_name.ensures) c.find.result
+    (lowest-between (λ k. holds (name_is c.args.name.now) (get_or t.names k none)) (first + 1) 128 _ _ c.find.result c.find.ensures.ran (mapped _ (first + 1) 128 (rw c.number.ensures.value at c.map.ensures.source) c.map.ensures.closure (λ x r q k. search rules)) (λ x b q k. search rules))

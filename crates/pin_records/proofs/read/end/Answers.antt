@@ -3,7 +3,7 @@ use Rattle.pin_records.proofs.HeldSlots.{held-absent, held-end}
 use Rattle.pin_records.proofs.read.end.Goals as goal
 
 pub returns-then-s-ne1 : goal.returns-then-s-ne1
-returns-then-s-ne1 c = held-absent c.requires.0 _ c.requires.1 c.name_slot-s.ensures.0 c.if-s-ne1.true
+returns-then-s-ne1 c = held-absent c.requires _ c.name_slot-s.ensures.1 c.name_slot-s.ensures.0 c.if-s-ne1.true
 
 pub returns : goal.returns
-returns c = held-end c.requires.0 _ c.requires.1 c.name_slot-s.ensures.0 _ c.if-s-ne1.false c.end.ensures
+returns c = held-end c.requires _ c.name_slot-s.ensures.1 c.name_slot-s.ensures.0 _ c.if-s-ne1.false c.end.ensures

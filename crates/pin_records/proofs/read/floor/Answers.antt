@@ -3,4 +3,4 @@ use Rattle.pin_records.proofs.HeldSlots.{held-floor}
 use Rattle.pin_records.proofs.read.floor.Goals as goal
 
 pub returns : goal.returns
-returns c = held-floor c.requires.0 _ c.requires.1 c.key_slot-s.ensures.0
+returns c = held-floor c.requires _ c.key_slot.ensures.1 c.key_slot.ensures.0

@@ -3,4 +3,4 @@ use Rattle.pin_records.proofs.Stores.{floor-stored}
 use Rattle.pin_records.proofs.store.store_floor.Goals as goal
 
 pub returns : goal.returns
-returns c = floor-stored c.requires.0 c.args.k.0 c.args.floor c.requires.1 c.requires.2
+returns c = let place = c.key_place-at.ensures in rw place.0 (floor-stored c.requires.0 c.args.k c.args.floor place.1 c.requires.1)

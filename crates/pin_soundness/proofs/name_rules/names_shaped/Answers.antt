@@ -1,14 +1,10 @@
-use mathlib.Core.Path.{sym, ap₂, ◌∙◌}
-use native.Mathlib.Omega.{arith}
+-- The slots are asked in turn.
+use Rattle.std.proofs.Common.{refl, rules}
+use Rattle.pin_model.specs.Layout.{latest_in, name_slot}
 use Rattle.pin_model.specs.Sound.{name_shaped, names_shaped}
-use Rattle.octets.proofs.Search.{every_true, every-false}
-use Rattle.pin_table.proofs.Rules.{no}
+use Rattle.pin_table.proofs.Ranges.{all-below, below}
 use Rattle.pin_soundness.proofs.name_rules.names_shaped.Goals as goal
-
-pub returns-then-not-name_shaped : goal.returns-then-not-name_shaped
-unfolding names_shaped
-returns-then-not-name_shaped c = sym (every-false _ _ _ c.loop-n-test.true (sym (ap₂ name_shaped c.latest-latest.ensures c.name_slot-s.ensures.0) ∙ no c.name_shaped.ensures c.if-not-name_shaped.true))
 
 pub returns : goal.returns
 unfolding names_shaped
-returns c = sym (every_true _ _ (λ m l. c.loop-n.invariant.1 m (omega arith)))
+returns c = all-below (λ i. name_shaped (latest_in c.args.area.now) (name_slot c.args.area.now i)) 128 _ _ _ c.all.ensures.ran (below 128 refl) (λ x b q k. search rules)

@@ -6,23 +6,21 @@ use Rattle.pin_steps.proofs.breaks.break_key.Goals as goal
 
 pub returns-in_default : goal.returns-in_default
 returns-in_default c =
-    break-absent c.args.key.now c.requires.0 (key-absent _ c.requires.0.fits.key_slots _ c.in_default.ensures)
+    break-absent c.args.key.now c.requires (key-absent _ c.requires.fits.key_slots _ c.in_default.ensures)
 
 pub drop_names-requires : goal.drop_names-requires
 drop_names-requires c =
-    let x = key-found-at _ c.requires.0.fits.key_slots _ _ c.in-At.ensures in
-    (c.requires.0, x.below, x.in_use)
+    (c.requires, (key-found-at _ c.requires.fits.key_slots _ _ c.in-Some.ensures).in_use)
 
 pub clear_key-requires : goal.clear_key-requires
 clear_key-requires c =
-    let x = key-found-at _ c.requires.0.fits.key_slots _ _ c.in-At.ensures in (
+    let x = key-found-at _ c.requires.fits.key_slots _ _ c.in-Some.ensures in (
       holds-stored c.drop_names.ensures,
-      x.below,
-      broken-used c.args.key.now c.requires.0 x c.drop_names.ensures,
-      broken-unnamed c.args.key.now c.requires.0 x c.drop_names.ensures,
+      broken-used c.args.key.now c.requires x c.drop_names.ensures,
+      broken-unnamed c.args.key.now c.requires x c.drop_names.ensures,
     )
 
 pub returns : goal.returns
 returns c =
-    let x = key-found-at _ c.requires.0.fits.key_slots _ _ c.in-At.ensures in
-    break-cleared c.args.key.now c.requires.0 x c.drop_names.ensures c.clear_key.ensures
+    let x = key-found-at _ c.requires.fits.key_slots _ _ c.in-Some.ensures in
+    break-cleared c.args.key.now c.requires x c.drop_names.ensures c.clear_key.ensures

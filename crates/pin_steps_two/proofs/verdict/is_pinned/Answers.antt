@@ -1,15 +1,18 @@
-use mathlib.Core.Path.{sym, ◌∙◌}
-use native.Mathlib.Omega.{arith}
+-- The slots are asked in turn.
+use mathlib.Core.Path.{refl, ◌∙◌}
+use mathlib.Core.Option.{none}
+use lib.ListN.{get_or}
+use Rattle.std.proofs.Common.{rules}
 use Rattle.pin_model.specs.Layout.{decode}
+use Rattle.pin_model.specs.Fits.{holds}
 use Rattle.pin_model.specs.Judge.{active_of}
-use Rattle.pin_model.proofs.Places.{any_at, any_none}
+use Rattle.pin_table.proofs.Ranges.{any-below, below}
+use Rattle.pin_records.proofs.AnySlot.{any-slot}
 use Rattle.pin_steps_two.proofs.verdict.is_pinned.Goals as goal
-
-pub returns-then-holds_active : goal.returns-then-holds_active
-returns-then-holds_active c =
-    sym (any_at (active_of c.args.name.now c.args.clock.0) (decode c.args.area.now).names c.loop-n.n (sym c.holds_active.ensures ∙ c.if-holds_active.true))
 
 pub returns : goal.returns
 returns c =
-    sym (any_none (active_of c.args.name.now c.args.clock.0) (decode c.args.area.now).names
-    (λ j l. c.loop-n.invariant.1 j (omega (arith, l, c.requires.fits.name_slots))))
+    let names = (decode c.args.area.now).names in
+    let pinned = active_of c.args.name.now c.args.clock.0 in
+    any-below (λ i. holds pinned (get_or names i none)) 128 _ _ _ c.any.ensures.ran (below 128 refl) (λ x b q k. search rules)
+    ∙ any-slot pinned names 128 c.requires.fits.name_slots

@@ -1,6 +1,5 @@
 -- The name is lent whole.
-use native.Mathlib.Omega.{arith}
-use lib.ListN.{get_or}
+use Rattle.std.proofs.Common.{get_or, arith}
 use Rattle.octets.proofs.Parts.{part-lent}
 use Rattle.pin_table.proofs.slots.name.Goals as goal
 

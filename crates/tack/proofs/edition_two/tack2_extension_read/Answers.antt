@@ -4,10 +4,10 @@ use Rattle.tack_extension.specs.Answers.{alert_of, alert_of_two}
 use Rattle.tack.specs.ExtensionTwo.{reading_two_answer}
 use Rattle.tack.proofs.edition_two.tack2_extension_read.Goals as goal
 
-pub returns-in-WellFormed : goal.returns-in-WellFormed
+pub returns-in-Some : goal.returns-in-Some
 unfolding reading_two_answer alert_of_two alert_of
-returns-in-WellFormed c = ap reading_two_answer c.in-WellFormed.ensures
+returns-in-Some c = ap reading_two_answer c.in-Some.ensures
 
-pub returns-in-Malformed : goal.returns-in-Malformed
+pub returns-in-None : goal.returns-in-None
 unfolding reading_two_answer alert_of_two alert_of
-returns-in-Malformed c = ap reading_two_answer c.in-Malformed.ensures
+returns-in-None c = ap reading_two_answer c.in-None.ensures

@@ -1,11 +1,17 @@
--- The contract of judging in edition two, with its answer as numbers.
-use mathlib.Core.Path.{refl}
-use Rattle.tack_extension.specs.Answers.{alert_of_two}
-use Rattle.tack.proofs.Outcomes.{judgement-is}
+-- What judging answers and leaves, in numbers.
+use mathlib.Core.Path.{ap, ◌∙◌}
+use Rattle.tack.specs.Table.{judgement_of, checks_two}
+use Rattle.tack.proofs.Ignored.{judge-two-ignores}
+use Rattle.tack.proofs.Outcomes.{judgement-two-is}
 use Rattle.tack.proofs.edition_two.tack2_judge.Goals as goal
 
-pub returns-in-Judged : goal.returns-in-Judged
-returns-in-Judged c = record { answer = judgement-is alert_of_two _ _ _ _ _ c.verdict_number-number.ensures c.alert_of_two.ensures refl refl c.in-Judged.ensures.answer; table = c.judge.ensures.area }
-
-pub returns-in-Refused : goal.returns-in-Refused
-returns-in-Refused c = record { answer = judgement-is alert_of_two _ _ _ _ _ c.refusal_number-number.ensures c.alert_of_two-in-Refused.ensures refl refl c.in-Refused.ensures.answer; table = c.judge.ensures.area }
+pub returns : goal.returns
+returns c =
+    let a = c.args in
+    let w = judge-two-ignores a.clock a.name a.extension a.spki_sha256 a.table.now
+    (checks_two a.handshake_finished a.keys_are_points a.signatures_correct) a.extension_came _ c.then_some.ensures in
+    let e = c.judgement_answer.ensures in
+    record {
+      answer = judgement-two-is _ _ e.number e.no_room e.alert ∙ ap judgement_of (c.judge.ensures.answer ∙ w.0);
+      table = c.judge.ensures.area ∙ w.1;
+    }

@@ -1,9 +1,10 @@
--- The first 64 bytes of the tack are its public key.
-use mathlib.Core.Path.{refl}
+use Rattle.std.specs.Array.{IsFirstChunk}
 use Rattle.octets.specs.Octets.{part}
 use Rattle.tack_extension.specs.Tack.{public_key}
 use Rattle.tack_extension.proofs.fields.public_key.Goals as goal
 
 pub returns : goal.returns
 unfolding part public_key
-returns c = refl
+returns c =
+    let chunk : IsFirstChunk _ c.unwrap.result.now 64 = rw c.unwrap.ensures at c.first_chunk.ensures.cases in
+    chunk.same

@@ -1,16 +1,11 @@
--- The break signatures lie where the layout says.
-use mathlib.Core.Path.{sym, ap}
-use native.Mathlib.Omega.{arith}
-use Rattle.tack_extension.specs.Extension.{parse, breaks_part, breaks_of}
-use Rattle.tack_extension.proofs.Places.{layout-refused, laid}
+use Rattle.std.proofs.Common.{ap}
+use Rattle.tack_extension.specs.Extension.{breaks_of, breaks_part}
 use Rattle.tack_extension.proofs.reader.breaks_part.Goals as goal
 
-pub returns-in_default : goal.returns-in_default
+pub returns-in-Some : goal.returns-in-Some
 unfolding breaks_part
-returns-in_default c = sym (ap breaks_of (layout-refused (parse c.args.s.now) (sym c.in_default.ensures)))
+returns-in-Some c = ap breaks_of c.in-Some.ensures
 
-pub slice_bounds-result-end-2 : goal.slice_bounds-result-end-2
-slice_bounds-result-end-2 c = let w = laid c.args.s.now _ _ _ (sym c.in-Ends.ensures) in omega arith
-
-pub returns : goal.returns
-returns c = (laid c.args.s.now _ _ _ (sym c.in-Ends.ensures)).breaks
+pub returns-in-None : goal.returns-in-None
+unfolding breaks_part
+returns-in-None c = ap breaks_of c.in-None.ensures

@@ -1,16 +1,16 @@
--- The tack lies where the layout says.
-use mathlib.Core.Path.{sym, ap}
-use native.Mathlib.Omega.{arith}
-use Rattle.tack_extension.specs.Extension.{parse, tack_part, tack_of}
-use Rattle.tack_extension.proofs.Places.{layout-refused, laid}
+use Rattle.std.proofs.Common.{ap, sym, ◌∙◌}
+use Rattle.tack_extension.specs.Extension.{tack_of, tack_part}
+use Rattle.tack_extension.specs.Answers.{tack_bytes}
 use Rattle.tack_extension.proofs.reader.tack_part.Goals as goal
 
 pub returns-in_default : goal.returns-in_default
 unfolding tack_part
-returns-in_default c = sym (ap tack_of (layout-refused (parse c.args.s.now) (sym c.in_default.ensures)))
+returns-in_default c = ap tack_of c.in_default.ensures
 
-pub slice_bounds-result-end-2 : goal.slice_bounds-result-end-2
-slice_bounds-result-end-2 c = let w = laid c.args.s.now _ _ _ (sym c.in-Ends.ensures) in omega arith
+pub returns-in-Some-tack : goal.returns-in-Some-tack
+unfolding tack_part
+returns-in-Some-tack c = ap tack_bytes (sym c.in-Some-tack.is) ∙ ap tack_of c.in-Some.ensures
 
-pub returns : goal.returns
-returns c = (laid c.args.s.now _ _ _ (sym c.in-Ends.ensures)).tack
+pub returns-in-None : goal.returns-in-None
+unfolding tack_part
+returns-in-None c = ap tack_bytes (sym c.in-None.is) ∙ ap tack_of c.in-Some.ensures

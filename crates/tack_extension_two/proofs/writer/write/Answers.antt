@@ -1,30 +1,25 @@
 -- The three answers, each with what it leaves in the output, by the tests before it.
-use mathlib.Core.Path.{sym, ap, ◌∙◌}
+use mathlib.Core.Path.{◌≡◌, sym, ap, ◌∙◌}
+use mathlib.Core.Bool.{false}
 use native.Mathlib.Omega.{arith}
-use lib.ListN.{length}
-use Rattle.tack_extension.specs.declared.answers.Writing.TheVariants.{Written}
+use Rattle.std.specs.Prelude.{Ok}
 use Rattle.tack_extension.proofs.Writing.{bad-part, no-space, written}
 use Rattle.tack_extension_two.specs.ExtensionTwo.{parts_in, good_two, bytes_of_two}
-use Rattle.tack_extension_two.proofs.GoodTwo.{tacks-between, in-good, bad-tacks, bad-flags}
+use Rattle.tack_extension_two.proofs.GoodTwo.{in-good, bad-tacks, bad-flags}
 use Rattle.tack_extension_two.proofs.WritingTwo.{bytes-length-two}
 use Rattle.tack_extension_two.proofs.writer.write.Goals as goal
+use Rattle.tack_extension_two.proofs.writer.write.Goals.{then-not-tacks_length-via-then-not-tacks_length, then-not-tacks_length-via-else-not-tacks_length+then-not-flags_allowed}
 
 pub returns-then-not-tacks_length : goal.returns-then-not-tacks_length
 returns-then-not-tacks_length c =
     let a = c.args in
     let t = a.tacks.now in
     let p = parts_in t a.flags in
-    let w = bad-part (good_two p) (bytes_of_two p) a.out.now
-    (bad-tacks t a.flags (sym c.tacks_length.ensures ∙ c.if-not-tacks_length.true)) in
-    record { answer = w.0; written = w.1 }
-
-pub returns-then-not-flags_allowed : goal.returns-then-not-flags_allowed
-returns-then-not-flags_allowed c =
-    let a = c.args in
-    let t = a.tacks.now in
-    let p = parts_in t a.flags in
-    let w = bad-part (good_two p) (bytes_of_two p) a.out.now
-    (bad-flags t a.flags (sym c.flags_allowed.ensures ∙ c.if-not-flags_allowed.true)) in
+    let bad : good_two p ≡ false = elim c.then-not-tacks_length.branch [
+      | then-not-tacks_length-via-then-not-tacks_length w ↦ bad-tacks t a.flags (sym w.if-not-tacks_length.ensures)
+      | then-not-tacks_length-via-else-not-tacks_length+then-not-flags_allowed w ↦ bad-flags t a.flags (sym w.if-not-flags_allowed.ensures)
+    ] in
+    let w = bad-part (good_two p) (bytes_of_two p) a.out.now bad in
     record { answer = w.0; written = w.1 }
 
 pub returns-then-out-n : goal.returns-then-out-n
@@ -33,15 +28,9 @@ returns-then-out-n c =
     let t = a.tacks.now in
     let p = parts_in t a.flags in
     let w = no-space (good_two p) (bytes_of_two p) a.out.now
-    (in-good t a.flags (sym c.tacks_length.ensures ∙ c.if-not-tacks_length.false) (sym c.flags_allowed.ensures ∙ c.if-not-flags_allowed.false))
+    (in-good t a.flags (sym c.if-not-tacks_length.ensures) (sym c.if-not-flags_allowed.ensures))
     (omega (arith, bytes-length-two t a.flags)) in
     record { answer = w.0; written = w.1 }
-
-pub put_extension-requires : goal.put_extension-requires
-put_extension-requires c =
-    let t = c.args.tacks.now in
-    let w = tacks-between (length t) (sym c.tacks_length.ensures ∙ c.if-not-tacks_length.false) in
-    (omega arith, omega arith)
 
 pub returns : goal.returns
 returns c =
@@ -51,6 +40,6 @@ returns c =
     let p = parts_in t a.flags in
     let w =
     written (good_two p) (bytes_of_two p) a.out.now
-    (in-good t a.flags (sym c.tacks_length.ensures ∙ c.if-not-tacks_length.false) (sym c.flags_allowed.ensures ∙ c.if-not-flags_allowed.false))
+    (in-good t a.flags (sym c.if-not-tacks_length.ensures) (sym c.if-not-flags_allowed.ensures))
     (omega (arith, bytes-length-two t a.flags, c.if-out-n.false)) in
-    record { answer = ap Written e.0 ∙ w.0; written = e.1 ∙ w.1 }
+    record { answer = ap Ok e.0 ∙ w.0; written = e.1 ∙ w.1 }
