@@ -6,15 +6,15 @@ use Prim.Native.Nat.{ℕ, zero, suc, ◌+◌, ◌-◌, ◌≤◌, ◌<◌, max}
 use native.Mathlib.Omega.{arith}
 use lib.Dec.{eqb}
 use lib.Pointwise.{pointwise}
-use lib.ListN.{length, get_or, take, drop, replicate, length-drop, length-replicate, get_or-replicate}
-use lib.Seq.{ext_get_or, take_all}
+use lib.ListN.{length, get_or, take, drop, replicate, length-replicate, get_or-replicate}
+use lib.Seq.{ext_get_or}
 use borrow.Author.Tests.{eqb-true, eq-eqb}
-use Rattle.std.proofs.Common.{rules, ⊎_elim}
+use Rattle.std.proofs.Common.{rules}
 use Rattle.std.specs.List.{fold}
 use Rattle.std.proofs.lemmas.Bool.Decides.{nat_tests}
 use Rattle.octets.specs.Octets.{part, same, all, all_zero}
-use Rattle.octets.proofs.Tests.{below_or, both_ways, and_left, and_right, and_both}
-use Rattle.octets.proofs.Parts.{part_length, part_at, part-lent, part-part}
+use Rattle.octets.proofs.Tests.{both_ways, and_left, and_right, and_both}
+use Rattle.octets.proofs.Parts.{part_length, part_at, part-lent}
 
 pub same_true : (xs ys : List ℕ) → same xs ys ≡ true → xs ≡ ys
 unfolding same
@@ -66,32 +66,6 @@ module _ (b : List ℕ) (at : ℕ) (p : List ℕ) (fits : at + length p ≤ leng
   same-part h =
       let n : length (part b at (length p)) ≡ length p = part_length b at (length p) fits in
       same-all (part b at (length p)) p n (λ i l. let m : i < length p = omega arith in part_at b at (length p) i m ∙ h i m)
-
--- where the first d bytes agree, the rest decides, as `&p[d..]` lends it
-module _ (b : List ℕ) (at : ℕ) (p : List ℕ) (d : ℕ) (fits : at + length p ≤ length b) (l : d ≤ length p) where
-  part-rest : part p d (length p - d) ≡ drop d p
-  unfolding part
-  part-rest = take_all (length p - d) (drop d p) (omega (arith, length-drop d p))
-
-  behind : same (part b (at + d) (length p - d)) (drop d p) ≡ true → (i : ℕ) → d ≤ i → i < length p → get_or b (at + i) 0 ≡ get_or p i 0
-  behind e i k m =
-      let q : part b (at + d) (length p - d) ≡ part p d (length p - d) = same_true _ _ e ∙ sym part-rest in
-      let x : at + d + (i - d) ≡ at + i = omega arith in
-      let y : d + (i - d) ≡ i = omega arith in
-      ap (λ (n : ℕ). get_or b n 0) (sym x) ∙ sym (part_at b (at + d) (length p - d) (i - d) (omega arith))
-      ∙ ap (λ (w : List ℕ). get_or w (i - d) 0) q ∙ part_at p d (length p - d) (i - d) (omega arith) ∙ ap (λ (n : ℕ). get_or p n 0) y
-
-  same-rest : ((i : ℕ) → i < d → get_or b (at + i) 0 ≡ get_or p i 0) → same (part b (at + d) (length p - d)) (drop d p) ≡ same (part b at (length p)) p
-  same-rest h =
-      both_ways _ _
-      (λ e. same-part b at p fits (λ i m. ⊎_elim (λ lt. h i lt) (λ le. behind e i le m) (below_or i d)))
-      (λ e. same-eq _ _ (sym (part-part b at (length p) d (length p - d) fits (omega arith)) ∙ ap (λ (w : List ℕ). part w d (length p - d)) (same_true _ _ e) ∙ part-rest))
-
-  pub same-behind : ((i : ℕ) → i < d → get_or b (at + i) 0 ≡ get_or p i 0)
-      → same (part b (at + d) (length (take (length p - d) (drop d p)))) (take (length p - d) (drop d p)) ≡ same (part b at (length p)) p
-  same-behind h =
-      let t : take (length p - d) (drop d p) ≡ drop d p = take_all (length p - d) (drop d p) (omega (arith, length-drop d p)) in
-      rw (t, length-drop d p) (same-rest h)
 
 -- a test of each element, at each place
 module _ (p : ℕ → Bool) where

@@ -61,9 +61,6 @@ module _ (P : ℕ → Type 0) (i : ℕ) (here : (j : ℕ) → j < 8 → P (i + j
   within : (j : ℕ) → i ≤ j → j < i + 8 → P j
   within j l k = let e : i + (j - i) ≡ j = omega arith in subst P e (here (j - i) (omega arith))
 
-  pub below-eight : ((j : ℕ) → j < i → P j) → (j : ℕ) → j < i + 8 → P j
-  below-eight below j l = ⊎_elim (λ lt. below j lt) (λ le. within j le l) (below_or j i)
-
   pub from-eight : ((j : ℕ) → i + 8 ≤ j → P j) → (j : ℕ) → i ≤ j → P j
   from-eight above j l = ⊎_elim (λ lt. within j l lt) (λ le. above j le) (below_or j (i + 8))
 

@@ -52,29 +52,12 @@ pub fn word_at(s: &[u8], at: usize) -> u64
     u64::from_le_bytes(*s[at..].first_chunk().unwrap())
 }
 
-// Whether the bytes from `at` are those of p, by the library's comparison of slices.
-fn same_part(s: &[u8], at: usize, p: &[u8]) -> bool
-    requires { at + length p.now ≤ length s.now }
-    ensures { result ≡ same (part s.now at (length p.now)) p.now }
-{
-    &s[at..at + p.len()] == p
-}
-
-// The same, by words of eight bytes from the front, where names differ, up to the first word that differs: the library's
-// comparison alone takes twice as long there.
+// Whether the bytes from `at` are those of p.
 pub fn same_at(s: &[u8], at: usize, p: &[u8]) -> bool
     requires { at + length p.now ≤ length s.now }
     ensures { result ≡ same (part s.now at (length p.now)) p.now }
 {
-    let words = p.len() / 8;
-    for i in 0..words {
-        let passed = 8 * i;
-        if word_at(s, at + passed) != word_at(p, passed) {
-            return false;
-        }
-    }
-    let passed = 8 * words;
-    same_part(s, at + passed, &p[passed..])
+    &s[at..at + p.len()] == p
 }
 
 // The same of 64 bytes, as a key has: from the last word down to the first, since keys may begin alike.
