@@ -1,5 +1,5 @@
 // Standard input, read behind the bytes that are not yet played.
-ghost use Rattle.std.specs.Prelude.{◌≡◌, ◌≤◌, ◌<◌, [], List, ℕ, length, drop, slice_range};
+ghost use Rattle.std.specs.Prelude.{◌≡◌, ◌≤◌, ◌<◌, [], List, ℕ, length, drop, take, slice_range};
 
 use std::io;
 use std::io::{ErrorKind, Read};
@@ -49,9 +49,11 @@ impl Unplayed {
     }
 
     // Moves the bytes to the front, and makes one read behind them. A read that a signal stopped gives no bytes. Whether there may be
-    // more: none where the input has ended.
+    // more: none where the input has ended. What is read, no clause can say.
     pub fn read_more(&mut self, rt: &HostRuntime) -> io::Result<bool>
         requires { length self.old < 65536 }
+        ensures within { (length self.old ≤ length self.new) × (length self.new ≤ 65536) }
+        ensures front { take (length self.old) self.new ≡ self.old }
     {
         self.buffer.copy_within(self.from..self.to, 0);
         self.to -= self.from;
