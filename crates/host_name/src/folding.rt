@@ -27,11 +27,14 @@ impl Folded {
         ensures { result ≡ take 254 (folded_name name.now) }
     {
         let length = name.len().min(254);
-        let mut bytes = [0; 254];
+        let mut folded = Folded {
+            bytes: [0; 254],
+            length,
+        };
         for (i, byte) in name[..length].iter().enumerate() {
-            bytes[i] = byte.to_ascii_lowercase();
+            folded.bytes[i] = byte.to_ascii_lowercase();
         }
-        Folded { bytes, length }
+        folded
     }
 
     pub fn as_slice(&self) -> &[u8]

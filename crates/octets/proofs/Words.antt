@@ -6,15 +6,17 @@ use mathlib.Core.Logic.{⊎_elim}
 use Prim.Native.Nat.{ℕ, suc, ◌+◌, ◌*◌, ◌-◌, ◌≤◌, ◌<◌}
 use native.Mathlib.Numerals.{add-one}
 use native.Mathlib.Omega.{arith}
+use lib.Dec.{eqb}
 use lib.ListN.{length, take, drop, get_or}
 use lib.Seq.{drop-cons}
+use borrow.Author.Tests.{eqb-true, eq-eqb}
 use Rattle.std.specs.Int.{w64, from_le_bytes}
 use Rattle.octets.specs.Octets.{Bytes, part, same}
 use Rattle.octets.specs.Words.{word}
-use Rattle.octets.proofs.Tests.{below_or, is_false}
+use Rattle.octets.proofs.Tests.{below_or, is_false, both_ways}
 use Rattle.octets.proofs.Parts.{part_length, part_at, part-all, part-part}
 use Rattle.octets.proofs.Numbers.{bytes-part}
-use Rattle.octets.proofs.Equal.{same_true}
+use Rattle.octets.proofs.Equal.{same_true, same-part}
 
 -- the word of a part, byte by byte
 word-step : (b : List ℕ) (at w : ℕ) → at < length b → word (part b at (suc w)) ≡ get_or b at 0 + 256 * word (part b (at + 1) w)
@@ -61,6 +63,9 @@ module _ (P : ℕ → Type 0) (i : ℕ) (here : (j : ℕ) → j < 8 → P (i + j
   within : (j : ℕ) → i ≤ j → j < i + 8 → P j
   within j l k = let e : i + (j - i) ≡ j = omega arith in subst P e (here (j - i) (omega arith))
 
+  pub below-eight : ((j : ℕ) → j < i → P j) → (j : ℕ) → j < i + 8 → P j
+  below-eight below j l = ⊎_elim (λ lt. below j lt) (λ le. within j le l) (below_or j i)
+
   pub from-eight : ((j : ℕ) → i + 8 ≤ j → P j) → (j : ℕ) → i ≤ j → P j
   from-eight above j l = ⊎_elim (λ lt. within j l lt) (λ le. above j le) (below_or j (i + 8))
 
@@ -77,3 +82,11 @@ module _ (s : List ℕ) (at : ℕ) (p : List ℕ) (i : ℕ) {v w : ℕ} (ev : v 
 
   pub words-differ : (n : ℕ) → at + n ≤ length s → i + 8 ≤ n → (v ≡ w → ⊥) → same (part s at n) p ≡ false
   words-differ n fits l h = is_false (same (part s at n) p) (λ e. h (words_same n fits l e))
+
+  -- the last word, where all bytes before it agree
+  pub last_word : Bytes s → Bytes p → at + length p ≤ length s → i + 8 ≡ length p → ((j : ℕ) → j < i → get_or s (at + j) 0 ≡ get_or p j 0)
+      → eqb v w ≡ same (part s at (length p)) p
+  last_word bs bp fits l h =
+      both_ways (eqb v w) (same (part s at (length p)) p)
+      (λ e. same-part s at p fits (λ j k. below-eight _ i (words-agree bs bp (omega arith) (omega arith) (eqb-true v w e)) h j (omega arith)))
+      (λ e. eq-eqb v w (words_same (length p) fits (omega arith) e))

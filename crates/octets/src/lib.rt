@@ -34,14 +34,15 @@ pub fn put_zeros(s: &mut [u8], at: usize, n: usize) -> usize
     at + n
 }
 
-// Copies p to the place `at`.
+// Copies p to the place `at`, byte by byte: the library's copy of a slice would have a library for C ask for `memmove` from outside.
 pub fn put_part(s: &mut [u8], at: usize, p: &[u8]) -> usize
     requires { at + length p.now ≤ length s.old }
     ensures { (result ≡ at + length p.now) × (s.new ≡ put s.old at p.now) }
 {
-    let end = at + p.len();
-    s[at..end].copy_from_slice(p);
-    end
+    for i in 0..p.len() {
+        s[at + i] = p[i];
+    }
+    at + p.len()
 }
 
 // The word of the eight bytes from `at`: the little-endian number, which the machine reads in one load.
@@ -49,15 +50,36 @@ pub fn word_at(s: &[u8], at: usize) -> u64
     requires { at + 8 ≤ length s.now }
     ensures { result ≡ word (part s.now at 8) }
 {
-    u64::from_le_bytes(*s[at..].first_chunk().unwrap())
+    u64::from_le_bytes(*s[at..at + 8].first_chunk().unwrap())
 }
 
-// Whether the bytes from `at` are those of p.
-pub fn same_at(s: &[u8], at: usize, p: &[u8]) -> bool
+// Fewer than eight bytes, apart, so that what is left of `same_at` is a part of each search that it serves.
+#[inline(never)]
+fn same_few_at(s: &[u8], at: usize, p: &[u8]) -> bool
     requires { at + length p.now ≤ length s.now }
     ensures { result ≡ same (part s.now at (length p.now)) p.now }
 {
     &s[at..at + p.len()] == p
+}
+
+// Whether the bytes from `at` are those of p: by words of eight bytes from the front, where names differ, up to the first word that
+// differs. The last word may overlap the one before it.
+#[inline(always)]
+pub fn same_at(s: &[u8], at: usize, p: &[u8]) -> bool
+    requires { at + length p.now ≤ length s.now }
+    ensures { result ≡ same (part s.now at (length p.now)) p.now }
+{
+    let n = p.len();
+    if n < 8 {
+        return same_few_at(s, at, p);
+    }
+    let last = n - 8;
+    for i in 0..(n - 1) / 8 {
+        if word_at(s, at + 8 * i) != word_at(p, 8 * i) {
+            return false;
+        }
+    }
+    word_at(s, at + last) == word_at(p, last)
 }
 
 // The same of 64 bytes, as a key has: from the last word down to the first, since keys may begin alike.

@@ -7,7 +7,8 @@ ghost use Rattle.pin_distinct.specs.Pins.{pin_again};
 use pin_table::slots;
 use pin_table::slots::{Area, NAME_AT, NAME_SLOT_LENGTH, NameSlot};
 
-// Whether two slots are used and have one name.
+// Whether two slots are used and have one name. A part of each search that asks it, as `same_at` is.
+#[inline(always)]
 #[tactic(auto, unfolding(pin_model::specs::Sound::same_name))]
 fn same_name(s: &[u8; NAME_SLOT_LENGTH], r: &[u8; NAME_SLOT_LENGTH]) -> bool
     ensures { result ≡ same_name s.now r.now }
@@ -45,14 +46,14 @@ pub fn name_thrice(area: &Area, n: NameSlot) -> bool
     })
 }
 
-// Whether a slot before this one says what it says: its name, and in edition two its key.
+// Whether a slot before this one says what it says: its name, and in edition two its key. Apart, since few slots come to it.
+#[inline(never)]
 pub fn pin_again(area: &Area, n: NameSlot) -> bool
     ensures { result ≡ pin_again (of_two area.now) area.now n }
 {
-    let two = slots::is_two(area);
-    let s = slots::name_slot(area, n);
-    (0..n.number()).any(|m| {
-        let r = slots::name_slot(area, NameSlot::at(m));
-        if two { same_pin(s, r) } else { same_name(s, r) }
-    })
+    if slots::is_two(area) {
+        let s = slots::name_slot(area, n);
+        return (0..n.number()).any(|m| same_pin(s, slots::name_slot(area, NameSlot::at(m))));
+    }
+    name_twice(area, n)
 }

@@ -121,12 +121,12 @@ fn check_tack(
     ensures answer { checked_number result ≡ first (tack_tests clock.0 hash.now checks (decode area.old) (unless_empty (tack_bytes tack.entry))) }
     ensures area { area.new ≡ calls.area_by (checked_number result) (λ n. calls.refused_with n (unless_empty (tack_bytes tack.entry)) area.old) area.old }
 {
-    let Some(tack) = tack else {
+    let Some(shown) = tack else {
         return Ok(());
     };
     let checked = tack::check_tack(area, clock, tack, hash, checks);
     if checked == Err(Refusal::Expired) {
-        raise::raise_floor(area, tack);
+        raise::raise_floor(area, shown);
     }
     checked
 }

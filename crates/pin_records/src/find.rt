@@ -20,7 +20,8 @@ pub fn holds_key(area: &[u8], k: KeySlot, key: &[u8; 64]) -> bool
     slots::is_used(s) && octets::same_64_at(s, KEY_AT, key)
 }
 
-// Whether the slot holds this name's record.
+// Whether the slot holds this name's record. A part of each search that asks it, as `same_at` is.
+#[inline(always)]
 pub fn holds_name(area: &[u8], n: NameSlot, name: &[u8]) -> bool
     requires { Stored area.now }
     ensures { result ≡ holds (name_is name.now) (get_or (decode area.now).names n none) }

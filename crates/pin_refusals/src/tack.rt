@@ -1,7 +1,8 @@
 // 18 to 23.
-ghost use Rattle.std.specs.Prelude.{◌≡◌, length};
+ghost use Rattle.std.specs.Prelude.{◌≡◌, length, IfSome};
 ghost use Rattle.octets.specs.Octets.{same};
 ghost use Rattle.tack_extension.specs.Tack.{target_hash};
+ghost use Rattle.tack_extension.specs.Answers.{tack_bytes};
 ghost use Rattle.pin_model.specs.Layout.{decode};
 ghost use Rattle.pin_model.specs.Connection.{unless_empty};
 ghost use Rattle.pin_model.specs.Refusals.{first, revoked, tack_tests};
@@ -33,7 +34,8 @@ pub fn is_revoked(area: &[u8], tack: &Tack) -> bool
     fields::generation(tack) < read::floor(area, k)
 }
 
-pub fn check_tack(
+// 18 to 23 of a tack that is shown.
+fn check_shown(
     area: &[u8],
     clock: Minutes,
     tack: &Tack,
@@ -63,4 +65,22 @@ pub fn check_tack(
         return Err(Refusal::Expired);
     }
     Ok(())
+}
+
+// 18 to 23, which need a tack.
+pub fn check_tack(
+    area: &[u8],
+    clock: Minutes,
+    tack: Option<&Tack>,
+    hash: &[u8],
+    checks: Checks,
+) -> Result<(), Refusal>
+    requires { Stored area.now }
+    ensures answer { checked_number result ≡ first (tack_tests clock.0 hash.now checks (decode area.now) (unless_empty (tack_bytes tack.entry))) }
+    ensures whole { IfSome tack.entry (λ t. length t.now ≡ 166) }
+{
+    match tack {
+        Some(tack) => check_shown(area, clock, tack, hash, checks),
+        None => Ok(()),
+    }
 }

@@ -59,7 +59,7 @@ fn part<const L: usize>(s: &[u8], at: usize) -> &[u8; L]
     requires { at + L ≤ length s.now }
     ensures { result.now ≡ part s.now at L }
 {
-    s[at..].first_chunk::<L>().unwrap()
+    s[at..at + L].first_chunk::<L>().unwrap()
 }
 
 pub fn latest(area: &[u8]) -> Minutes

@@ -51,7 +51,7 @@ impl Progress {
     // Writes the lines that are not yet written.
     fn write(&mut self, rt: &HostRuntime) -> Result<(), Failure>
         requires { (self.old.end ≤ 65536) × Reached self.old.area self.old.index self.old.tally.counts }
-        ensures { InOrder self.new × (self.new.index ≡ self.old.index) × (self.new.unplayed ≡ self.old.unplayed) }
+        ensures { InOrder self.new × (self.new.index ≡ self.old.index) × (self.new.unplayed ≡ self.old.unplayed) × (self.new.area ≡ self.old.area) × (self.new.tally ≡ self.old.tally) }
     {
         let end = self.end;
         self.end = 0;
@@ -64,7 +64,7 @@ impl Progress {
     // Writes what is left of the report, and its last line: `total` behind a whole night, `bad` behind any other.
     fn close(&mut self, rt: &HostRuntime, whole: bool) -> Result<(), Failure>
         requires { InOrder self.old }
-        ensures { InOrder self.new × (self.new.index ≡ self.old.index) }
+        ensures { InOrder self.new × (self.new.index ≡ self.old.index) × (self.new.area ≡ self.old.area) × (self.new.tally ≡ self.old.tally) }
     {
         let index = self.index;
         self.end = if whole {
@@ -79,7 +79,7 @@ impl Progress {
     // play.
     fn read_more(&mut self, rt: &HostRuntime) -> Result<bool, Failure>
         requires { InOrder self.old × (length self.old.unplayed < 4452) }
-        ensures { InOrder self.new × (self.new.index ≡ self.old.index) }
+        ensures { InOrder self.new × (self.new.index ≡ self.old.index) × (self.new.area ≡ self.old.area) × (self.new.tally ≡ self.old.tally) }
     {
         self.write(rt)?;
         if self.unplayed.read_more(rt).map_err(Failure::Input)? {

@@ -9,15 +9,17 @@ pub loop-i-preserved : goal.loop-i-preserved
 loop-i-preserved c =
     let i : ℕ = c.loop-i.i in
     let s = c.args.name.now in
-    let below : i < length c.loop-i.bytes = omega (arith, length-take c.min-length.result s) in
+    let below : i < length c.loop-i.folded-inside.bytes = omega (arith, length-take c.min-length.result s) in
     let read = get_or-take c.min-length.result s i 0 (omega (arith, length-take c.min-length.result s)) in (
       simp length-set c.loop-i.invariant.0,
       below_more _ _
           (λ k h. let ne : k ≢ i = omega arith in rw get_or-set_other (c.loop-i.invariant.1 k h))
           (rw get_or-set_same (c.to_ascii_lowercase.ensures.value ∙ lowered (get_or (take c.min-length.result s) i 0) ∙ ap folded_byte read)),
+      c.loop-i.invariant.2,
     )
 
 pub returns : goal.returns
 returns c =
-    front c.args.name.now c.loop-i.bytes 254 _ c.min-length.ensures (omega arith)
+    ap (λ (n : ℕ). take n c.loop-i.folded-inside.bytes) c.loop-i.invariant.2
+    ∙ front c.args.name.now c.loop-i.folded-inside.bytes 254 _ c.min-length.ensures (omega arith)
     (λ i l. c.loop-i.invariant.1 i (omega (arith, length-take c.min-length.result c.args.name.now)))

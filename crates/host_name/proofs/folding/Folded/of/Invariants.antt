@@ -4,4 +4,4 @@ use Rattle.host_name.specs.Folding.{folded_byte}
 use Rattle.host_name.proofs.folding.Folded.of.Given as goal
 
 abbrev pub invariant-loop-i : goal.invariant-loop-i
-invariant-loop-i l = (length l.bytes ≡ 254) × ((k : ℕ) → k < l.i → get_or l.bytes k 0 ≡ folded_byte (get_or l.name k 0))
+invariant-loop-i l = (length l.folded-inside.bytes ≡ 254) × ((k : ℕ) → k < l.i → get_or l.folded-inside.bytes k 0 ≡ folded_byte (get_or l.name k 0)) × (l.folded-inside.length ≡ l.length)
