@@ -53,25 +53,18 @@ pub fn word_at(s: &[u8], at: usize) -> u64
     u64::from_le_bytes(*s[at..at + 8].first_chunk().unwrap())
 }
 
-// Fewer than eight bytes, apart, so that what is left of `same_at` is a part of each search that it serves.
-#[inline(never)]
-fn same_few_at(s: &[u8], at: usize, p: &[u8]) -> bool
-    requires { at + length p.now ≤ length s.now }
-    ensures { result ≡ same (part s.now at (length p.now)) p.now }
-{
-    &s[at..at + p.len()] == p
-}
-
 // Whether the bytes from `at` are those of p: by words of eight bytes from the front, where names differ, up to the first word that
-// differs. The last word may overlap the one before it.
+// differs. The last word may overlap the one before it. Fewer than eight bytes, and 96 and more, go by the library, from the front too and
+// faster there.
 #[inline(always)]
+#[tactic(auto, using(crate::proofs::Equal::compared_at))]
 pub fn same_at(s: &[u8], at: usize, p: &[u8]) -> bool
     requires { at + length p.now ≤ length s.now }
     ensures { result ≡ same (part s.now at (length p.now)) p.now }
 {
     let n = p.len();
-    if n < 8 {
-        return same_few_at(s, at, p);
+    if n < 8 || 96 <= n {
+        return &s[at..at + n] == p;
     }
     let last = n - 8;
     for i in 0..(n - 1) / 8 {

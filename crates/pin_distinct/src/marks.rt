@@ -40,8 +40,8 @@ pub fn key_mark(s: &[u8; KEY_SLOT_LENGTH]) -> Mark
     mark_of(with_word(first, last))
 }
 
-// By the words that the name stands in. Zeros fill the last of them, so that equal names have equal words. Apart, since the check that asks
-// it is large enough.
+// By the words that the name stands in. Zeros fill the last of them, so that equal names have equal words. Apart, since the check that
+// asks it is large enough.
 #[inline(never)]
 pub fn name_mark(s: &[u8; NAME_SLOT_LENGTH]) -> Mark
     requires { name_formed s.now ≡ true }

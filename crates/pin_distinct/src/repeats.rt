@@ -14,8 +14,8 @@ fn same_name(s: &[u8; NAME_SLOT_LENGTH], r: &[u8; NAME_SLOT_LENGTH]) -> bool
     ensures { result ≡ same_name s.now r.now }
 {
     slots::is_used(s)
-        && slots::is_used(r)
         && slots::name_length(s) == slots::name_length(r)
+        && slots::is_used(r)
         && octets::same_at(s, NAME_AT, slots::name(r))
 }
 

@@ -18,7 +18,8 @@ use pin_table::minutes::Minutes;
 use pin_table::slots::{NAME_SLOTS, NameSlot};
 use tack_extension_two::reader::Tacks;
 
-// Whether the slot has an active record of the name.
+// Whether the slot has an active record of the name. A part of each search that asks it, as `holds_name` is.
+#[inline(always)]
 fn holds_active(area: &[u8], n: NameSlot, name: &[u8], clock: Minutes) -> bool
     requires { Stored area.now }
     ensures { result ≡ holds (active_of name.now clock.0) (get_or (decode area.now).names n none) }
